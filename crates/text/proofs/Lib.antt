@@ -1,0 +1,7 @@
+mod FieldRule
+mod Numbers
+mod LineForms
+mod Columns
+pub mod Rendered
+pub mod Cuts
+pub mod Passes

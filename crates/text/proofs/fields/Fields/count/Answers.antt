@@ -1,0 +1,6 @@
+use denote.Ref.{now}
+use Rattle.text.proofs.Numbers.{count-is}
+use Rattle.text.proofs.fields.Fields.count.Needs as need
+
+pub returns : need.returns
+returns c = count-is (now (c .args .self .columns))

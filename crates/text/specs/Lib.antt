@@ -1,0 +1,9 @@
+pub mod Field
+pub mod First
+pub mod Numbers
+pub mod Values
+pub mod Lines
+pub mod Told
+pub mod Reader
+pub mod Rendering
+pub mod Laws
