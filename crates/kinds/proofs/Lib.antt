@@ -1,0 +1,4 @@
+mod Agrees
+mod Least
+mod Whole
+pub mod Over

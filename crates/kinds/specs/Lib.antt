@@ -1,0 +1,5 @@
+pub mod Faults
+pub mod Named
+pub mod Kinds
+pub mod Held
+pub mod Laws
