@@ -110,7 +110,8 @@ fn repeated(mut kinds: Vec<Kind>, n: usize, kind: Kind) -> Result<Vec<Kind>, All
     Ok(kinds)
 }
 
-fn kinds_of(heap: Global, fields: Fields<'_>) -> Result<Vec<Kind>, AllocError>
+// The kinds that fields name.
+pub fn kinds_of(heap: Global, fields: Fields<'_>) -> Result<Vec<Kind>, AllocError>
     ensures { λ r. ⌜ made r (λ v. vec-items v ≡ kinds-in (values (fields .entry))) ⌝ }
 {
     let mut kinds = Vec::new(heap);

@@ -1,0 +1,23 @@
+-- What `check` answers, and what it leaves in the caller's place.
+use mathlib.Core.Path.{_≡_}
+use mathlib.Core.List.{List}
+use Prim.Native.Nat.{ℕ}
+use Rattle.std.specs.declared.result.Result.{Result}
+use Rattle.std.specs.declared.result.Result.the-variants.{Ok, Err}
+use Rattle.kinds.specs.declared.fault.Refusal.{Refusal}
+use Rattle.kinds.specs.declared.fault.Refusal.the-variants.{Fault, Memory}
+use Rattle.kinds.specs.Laws.{Faultless, Least}
+use Rattle.program.specs.declared.program.Program.{Program}
+use Rattle.program.specs.Says.{program-lines, rendering}
+
+-- the text says this program: it is the program's rendering, and of every program that it renders the lines are the same
+pub record Says (bs : List ℕ) (p : Program) : Type 0 where
+  pub text : rendering p ≡ bs
+  pub once : (q : Program) → rendering q ≡ bs → program-lines q ≡ program-lines p
+
+-- accepted: the text keeps the rules, and the place holds what it says; refused: the place is as it was, and the fault
+-- is the least that the text has, or memory was wanting
+abbrev pub Checks : List ℕ → Program → Result (Unit {0}) Refusal → Program → Type 0
+Checks bs old (Ok u) new = Faultless bs × Says bs new
+Checks bs old (Err Memory) new = new ≡ old
+Checks bs old (Err (Fault f)) new = Least bs f × (new ≡ old)

@@ -1,0 +1,6 @@
+pub mod Arith
+pub mod Programs
+pub mod Says
+pub mod Smallest
+pub mod Formed
+pub mod Checks

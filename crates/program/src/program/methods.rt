@@ -1,0 +1,40 @@
+ghost use mathlib.Core.Path.{_≡_};
+ghost use Rattle.std.specs.Vec.{made};
+ghost use Rattle.program.specs.Says.{program-lines};
+ghost use Rattle.program.specs.Programs.{function-lines};
+ghost use Rattle.program.specs.Smallest.{zero-lines, smallest-lines};
+use crate::function::Command;
+use crate::function::Function;
+use crate::function::Tail;
+use crate::program::Program;
+use std::alloc::AllocError;
+use std::alloc::Global;
+use text::fields::Kind;
+
+// FUN 2; LIT 0; PUT 0
+fn writes_zero(heap: Global) -> Result<Function, AllocError>
+    ensures { λ r. ⌜ made r (λ f. function-lines f ≡ zero-lines) ⌝ }
+{
+    let commands = vec![in heap; Command::Lit { value: 0 }]?;
+    Ok(Function {
+        result: Kind::ModNumber,
+        params: Vec::new(heap),
+        commands,
+        tail: Tail::Put { number: 0 },
+    })
+}
+
+impl Program {
+    // What a new place holds: one number input, nothing given, and a function that writes 0.
+    pub fn smallest(heap: Global) -> Result<Program, AllocError>
+        ensures { λ r. ⌜ made r (λ p. program-lines p ≡ smallest-lines) ⌝ }
+    {
+        let functions = vec![in heap; writes_zero(heap)?]?;
+        Ok(Program {
+            numbers: 1,
+            lists: 0,
+            run: Vec::new(heap),
+            functions,
+        })
+    }
+}
