@@ -25,7 +25,7 @@ use Rattle.program.specs.Formed.{Formed, Gives, entry-of, entries}
 use Rattle.program.proofs.Formed.{formed}
 use Rattle.program.proofs.Lines.{opening, program-read}
 
-none-over : (o : Option ShapeFault) (q : Option KindFault) → over-shape o q ≡ None → (o ≡ None) × (q ≡ None)
+pub none-over : (o : Option ShapeFault) (q : Option KindFault) → over-shape o q ≡ None → (o ≡ None) × (q ≡ None)
 none-over None q e = (refl, e)
 none-over (Some x) q e = absurd (let z : _≡_ {A = ℕ} 0 1 = cc in omega arith)
 

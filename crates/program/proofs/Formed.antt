@@ -34,11 +34,11 @@ use Rattle.program.specs.Programs.{wholes, kind-number}
 use Rattle.program.specs.Formed.{Held, Whole, entries, due-after, Formed}
 use Rattle.program.proofs.Entries.{both, named-whole}
 
-or-none : {F : Type 0} (o q : Option F) → or-else o q ≡ None → (o ≡ None) × (q ≡ None)
+pub or-none : {F : Type 0} (o q : Option F) → or-else o q ≡ None → (o ≡ None) × (q ≡ None)
 or-none None q e = (refl, e)
 or-none (Some f) q e = absurd (let z : _≡_ {A = ℕ} 0 1 = cc in omega arith)
 
-all-three : {F : Type 0} (a b c : Bool) (f g h : F) → cond a (cond b (cond c None (Some f)) (Some g)) (Some h) ≡ None → (a ≡ true) × (b ≡ true) × (c ≡ true)
+pub all-three : {F : Type 0} (a b c : Bool) (f g h : F) → cond a (cond b (cond c None (Some f)) (Some g)) (Some h) ≡ None → (a ≡ true) × (b ≡ true) × (c ≡ true)
 all-three true true true f g h e = (refl, refl, refl)
 all-three true true false f g h e = absurd (let z : _≡_ {A = ℕ} 0 1 = cc in omega arith)
 all-three true false c f g h e = absurd (let z : _≡_ {A = ℕ} 0 1 = cc in omega arith)

@@ -5,3 +5,4 @@ mod Formed
 mod Lines
 mod Faultless
 mod Said
+mod Steps

@@ -4,3 +4,4 @@ pub mod Says
 pub mod Smallest
 pub mod Formed
 pub mod Checks
+pub mod Steps

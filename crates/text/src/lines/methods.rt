@@ -17,7 +17,7 @@ use crate::lines::Lines;
 const LONGEST: usize = 65536;
 
 // Where the first line ends, if a byte 10 ends it.
-fn line_end_of(text: &[u8]) -> Option<usize>
+pub fn line_end_of(text: &[u8]) -> Option<usize>
     ensures value { λ r. ⌜ r ≡ line-end 0 (now (text .entry)) ⌝ }
     ensures bound { λ r. ⌜ BySome r (Unit {0}) (λ i. i < length (now (text .entry))) ⌝ }
 {

@@ -3,7 +3,7 @@ use Prim.Native.Nat.{_-_}
 use Rattle.std.specs.Options.{isSome}
 use native.Mathlib.Omega.{arith}
 use lib.ListN.{length, take, drop, length-drop}
-use Rattle.text.proofs.FieldRule.{rest-is}
+use Rattle.std.proofs.shelf.Lists.{take-rest}
 use Rattle.text.proofs.Numbers.{stand-more, stand-fails}
 use Rattle.text.proofs.fields.all_stand.Needs as need
 
@@ -15,5 +15,5 @@ returns-then-is-none c =
 pub loop-rest-again : need.loop-rest-again
 loop-rest-again c =
     let xs = c .loop-rest .rest .now in
-    let is = rest-is xs 6 in
+    let is = take-rest xs 6 in
     (omega (arith, ap length is, length-drop 6 xs), sym (stand-more xs (take (length xs - 6) (drop 6 xs)) is (c .loop-rest-test .taken) (ap isSome (sym (c .field .ensures)) ∙ c .if-is-none .ensures tt)) ∙ c .loop-rest .inv .1)

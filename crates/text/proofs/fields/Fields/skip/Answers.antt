@@ -4,9 +4,8 @@ use native.Mathlib.Omega.{arith}
 use borrow.Author.Needs.{needs}
 use denote.Ref.{now}
 use lib.ListN.{length, take, drop}
-use Rattle.std.proofs.shelf.Lists.{drop-all}
+use Rattle.std.proofs.shelf.Lists.{take-rest, drop-all}
 use Rattle.text.specs.Numbers.{numbers-in}
-use Rattle.text.proofs.FieldRule.{rest-is}
 use Rattle.text.proofs.Numbers.{count-is, numbers-drop}
 use Rattle.text.proofs.fields.Fields.skip.Needs as need
 
@@ -26,4 +25,4 @@ pub returns : need.returns
 returns c =
     let xs = now (c .args .self .columns) in
     let e = count-is xs in
-    ap numbers-in (rest-is xs (6 * c .args .k)) ∙ numbers-drop (c .args .k) xs (omega arith)
+    ap numbers-in (take-rest xs (6 * c .args .k)) ∙ numbers-drop (c .args .k) xs (omega arith)

@@ -6,10 +6,10 @@ use denote.Ref.{now}
 use lib.ListN.{length, take, drop}
 use Rattle.std.proofs.shelf.Results.{err-from-errBy}
 use Rattle.std.specs.declared.result.Result.the-variants.{Ok, Err}
+use Rattle.std.proofs.shelf.Lists.{take-rest}
 use Rattle.text.specs.Lines.{line-of}
 use Rattle.text.specs.Told.{numbered, said, told-line}
 use Rattle.text.specs.Reader.{Reads}
-use Rattle.text.proofs.FieldRule.{rest-is}
 use Rattle.text.proofs.Cuts.{reads, falls, unended}
 use Rattle.text.proofs.lines.methods.first_line.Needs as need
 
@@ -27,4 +27,4 @@ pub returns : need.returns
 returns c =
     let xs = now (c .args .text) in
     let cut : c .in-Some .end ≡ c .in-Some .end - 0 = omega arith in
-    subst (Reads (c .args .number) xs _) (sym (rest-is xs (c .in-Some .end + 1))) (reads (c .args .number) (c .in-Some .end) xs _ (sym (c .in-Some .ensures tt .value)) (ap (λ k. line-of (c .args .number) (take k xs)) cut ∙ sym (c .in-Continue-line .ensures tt)))
+    subst (Reads (c .args .number) xs _) (sym (take-rest xs (c .in-Some .end + 1))) (reads (c .args .number) (c .in-Some .end) xs _ (sym (c .in-Some .ensures tt .value)) (ap (λ k. line-of (c .args .number) (take k xs)) cut ∙ sym (c .in-Continue-line .ensures tt)))

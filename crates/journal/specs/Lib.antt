@@ -1,0 +1,4 @@
+pub mod Journal
+pub mod Verdicts
+pub mod Answers
+pub mod Cut
