@@ -26,13 +26,13 @@ split-at k j (b ∷ bs) e zero q =
     ⊎-elim
     (λ h. ap (λ x. x ∷ bs) (h .1))
     (λ h. absurd (let x : line-end k (b ∷ bs) ≡ line-end (k + 1) bs = ap (λ t. cond t (Some k) (line-end (k + 1) bs)) (h .0) in
-      let r = cut-at (k + 1) j bs (sym x ∙ e) in omega (arith, r .at)))
+    let r = cut-at (k + 1) j bs (sym x ∙ e) in omega (arith, r .at)))
     (eqb-tells b 10)
 split-at k j (b ∷ bs) e (suc i) q =
     ⊎-elim
     (λ h. absurd (let x : line-end k (b ∷ bs) ≡ Some k = ap (λ t. cond t (Some k) (line-end (k + 1) bs)) (h .0) in let y : j ≡ k = cc in omega arith))
     (λ h. let x : line-end k (b ∷ bs) ≡ line-end (k + 1) bs = ap (λ t. cond t (Some k) (line-end (k + 1) bs)) (h .0) in
-      ap (λ xs. b ∷ xs) (split-at (k + 1) j bs (sym x ∙ e) i (omega arith)))
+    ap (λ xs. b ∷ xs) (split-at (k + 1) j bs (sym x ∙ e) i (omega arith)))
     (eqb-tells b 10)
 
 cut-here : (j : ℕ) (bs : List ℕ) → line-end 0 bs ≡ Some j → Cut bs (take j bs) (drop (j + 1) bs)
@@ -84,10 +84,11 @@ module _ (bs rest line after : List ℕ) (b : Past bs rest) (c : Cut rest line a
   text-ends t =
       let l : length bs ≡ length (b .front) + length rest = ap length (b .whole) ∙ length-append (b .front) rest in
       let n : length bs - length rest - 0 ≡ length (b .front) = omega arith in
-      let e : text-of (lines-in bs) ≡ b .front = b .text ∙ ap (λ ls. b .front ++ text-of ls) (c .lines) ∙ ap (λ u. b .front ++ cond u [] (line ++ (newline (c .ended) ++ text-of (lines-in after)))) t ∙ append-nil (b .front) in
-      ( ap (λ k. take k bs) n ∙ ap (take (length (b .front))) (b .whole) ∙ take-at (b .front) rest _ refl ∙ sym e
-      , sym (b .behind ∙ ap behind-text (c .lines) ∙ ap (λ u. cond u (lines-in after) (behind-text (lines-in after))) t)
-      , omega (arith, c .shorter) )
+      let e : text-of (lines-in bs) ≡ b .front = b .text ∙ ap (λ ls. b .front ++ text-of ls) (c .lines) ∙ ap (λ u. b .front ++ cond u [] (line ++ (newline (c .ended) ++ text-of (lines-in after)))) t ∙ append-nil (b .front) in (
+        ap (λ k. take k bs) n ∙ ap (take (length (b .front))) (b .whole) ∙ take-at (b .front) rest _ refl ∙ sym e,
+        sym (b .behind ∙ ap behind-text (c .lines) ∙ ap (λ u. cond u (lines-in after) (behind-text (lines-in after))) t),
+        omega (arith, c .shorter),
+      )
 
 pub all-text : (bs rest : List ℕ) → Past bs rest → rest ≡ [] → (bs ≡ text-of (lines-in bs)) × ([] ≡ behind-text (lines-in bs))
 all-text bs rest b e = (b .whole ∙ ap (λ xs. b .front ++ xs) e ∙ ap (λ xs. b .front ++ text-of (lines-in xs)) (sym e) ∙ sym (b .text), sym (b .behind ∙ ap (λ xs. behind-text (lines-in xs)) e))

@@ -16,7 +16,12 @@ use std::alloc::AllocError;
 use std::alloc::Global;
 
 // Makes the first call of a journal, adds its answer, and gives what is left of the journal.
-fn answer_call<'a>(heap: Global, journal: &'a [u8], place: &mut Program, out: &mut Vec<u8>) -> Result<&'a [u8], AllocError>
+fn answer_call<'a>(
+    heap: Global,
+    journal: &'a [u8],
+    place: &mut Program,
+    out: &mut Vec<u8>,
+) -> Result<&'a [u8], AllocError>
     requires { ⌜ 0 < length (now journal) ⌝ }
     ensures { λ r. ⌜ made r (λ rest. Goes-on (now (journal .entry)) (vec-items (now (out .entry))) (now rest) (vec-items (now (out .exit)))) ⌝ }
 {

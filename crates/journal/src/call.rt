@@ -19,6 +19,10 @@ pub(crate) fn call_of(line: &[u8]) -> Call
     match line {
         [] => Call::Passed,
         [b'#', ..] => Call::Passed,
-        _ => if spells(line, b"text") { Call::Text } else { Call::Unknown },
+        _ => if spells(line, b"text") {
+            Call::Text
+        } else {
+            Call::Unknown
+        },
     }
 }

@@ -1,5 +1,5 @@
 // The journal: the calls that a terminal, a test or a person writes, a line each, and what is answered to them.
-pub mod cut;
-pub mod call;
-pub mod verdict;
 pub mod answer;
+pub mod call;
+pub mod cut;
+pub mod verdict;

@@ -4,5 +4,7 @@ mod Entries
 mod Formed
 mod Lines
 mod Faultless
+mod Viewed
 mod Said
+pub mod Sound
 mod Steps

@@ -13,6 +13,7 @@ use Rattle.program.specs.Says.{program-lines, rendering}
 use Rattle.program.specs.Checks.{Says}
 use Rattle.program.proofs.Kept.{kept}
 use Rattle.program.proofs.Faultless.{faultless}
+use Rattle.program.proofs.Viewed.{view-from-lines}
 
 same-lines : (p q : Program) → rendering q ≡ rendering p → program-lines q ≡ program-lines p
 same-lines p q e = rendered-once (program-lines q) (program-lines p) (kept (q .numbers) (q .lists) (vec-items (q .run)) (vec-items (q .functions)) (q .keeps) .1) (kept (p .numbers) (p .lists) (vec-items (p .run)) (vec-items (p .functions)) (p .keeps) .1) e
@@ -20,4 +21,4 @@ same-lines p q e = rendered-once (program-lines q) (program-lines p) (kept (q .n
 pub says : (bs : List ℕ) (p : Program) → fault-of bs ≡ None → program-lines p ≡ lines-of bs → Says bs p
 says bs p f e =
     let t : rendering p ≡ bs = ap rendered e ∙ rendering-of bs (faultless bs f .stand) .0 in
-    record { text = t; once = λ q r. same-lines p q (r ∙ sym t) }
+    record { text = t; once = λ q r. view-from-lines q p (same-lines p q (r ∙ sym t)) }

@@ -22,11 +22,11 @@ use Rattle.text.specs.Lines.{Said, Told, line-end, line-of, Raw, longer, lines
 use Rattle.text.specs.Numbers.{fields-stand, numbers-in}
 use Rattle.text.specs.Reader.{Reads, Falls}
 
-pub end-here : (i b : ℕ) (bs : List ℕ) → b ≡ 10 → line-end i (b ∷ bs) ≡ Some i
-end-here i b bs e = grind (arith, tells)
+pub end-here : (i b : ℕ) (bs : List ℕ) → true ≡ eqb b 10 → line-end i (b ∷ bs) ≡ Some i
+end-here i b bs e = ap (λ t. cond t (Some i) (line-end (i + 1) bs)) (sym e)
 
-pub end-on : (i b : ℕ) (bs : List ℕ) → (b ≡ 10 → ⊥) → line-end i (b ∷ bs) ≡ line-end (i + 1) bs
-end-on i b bs e = grind (arith, tells)
+pub end-on : (i b : ℕ) (bs : List ℕ) → false ≡ eqb b 10 → line-end i (b ∷ bs) ≡ line-end (i + 1) bs
+end-on i b bs e = ap (λ t. cond t (Some i) (line-end (i + 1) bs)) (sym e)
 
 pub record Cut (k j : ℕ) (bs : List ℕ) : Type 0 where
   pub size : ℕ

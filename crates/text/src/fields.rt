@@ -43,7 +43,7 @@ impl<'a> Fields<'a> {
     pub fn count(self) -> usize
         ensures { λ r. ⌜ r ≡ length (values (self .entry)) ⌝ }
     {
-        self.columns.len() / WIDTH
+        fields_in(self.columns.len())
     }
 
     // The number in field j, or 0 where there is no field j.
@@ -78,11 +78,26 @@ impl<'a> Fields<'a> {
         if k >= self.count() {
             return Fields::none();
         }
-        let columns = self.columns;
         Fields {
-            columns: &columns[WIDTH * k..],
+            columns: columns_from(self.columns, WIDTH * k),
         }
     }
+}
+
+// How many fields so many columns are.
+fn fields_in(columns: usize) -> usize
+    ensures { λ r. ⌜ r ≡ columns / 6 ⌝ }
+{
+    columns / WIDTH
+}
+
+// The columns from column `start` on.
+fn columns_from(columns: &[u8], start: usize) -> &[u8]
+    requires { ⌜ start ≤ length (now columns) ⌝ }
+    ensures { λ r. ⌜ now r ≡ drop start (now (columns .entry)) ⌝ }
+{
+    let (_, rest) = columns.split_at(start);
+    rest
 }
 
 fn whole(v: i32) -> Option<usize>

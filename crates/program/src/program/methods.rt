@@ -1,10 +1,10 @@
 ghost use mathlib.Core.Path.{_≡_};
 ghost use Prim.Native.Nat.{_≤_};
-ghost use Rattle.std.specs.Of.Vec.{vec-items};
 ghost use Rattle.std.specs.Vec.{made};
 ghost use Rattle.program.specs.Says.{program-lines};
 ghost use Rattle.program.specs.Programs.{function-lines};
-ghost use Rattle.program.specs.Steps.{steps-in};
+ghost use Rattle.program.specs.View.{viewed};
+ghost use Rattle.program.specs.Sound.{steps-in};
 ghost use Rattle.program.specs.Smallest.{zero-lines, smallest-lines};
 use crate::function::Command;
 use crate::function::Function;
@@ -43,7 +43,7 @@ impl Program {
 
     // Commands and tails together.
     pub fn steps(&self) -> usize
-        ensures value { λ r. ⌜ r ≡ steps-in (vec-items (now (self .entry) .functions)) ⌝ }
+        ensures value { λ r. ⌜ r ≡ steps-in (viewed (now (self .entry)) .functions) ⌝ }
         ensures bound { λ r. ⌜ r ≤ 512 ⌝ }
     {
         let mut steps = 0;

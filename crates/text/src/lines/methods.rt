@@ -1,5 +1,6 @@
 ghost use mathlib.Core.Path.{_≡_};
 ghost use Prim.Native.Nat.{_≤_, _<_};
+ghost use lib.Dec.{eqb};
 ghost use lib.ListN.{length};
 ghost use Rattle.std.specs.Options.{Cases as BySome};
 ghost use Rattle.std.specs.Results.{Cases as ByOk};
@@ -16,13 +17,19 @@ use crate::lines::Lines;
 // The most bytes of a text.
 const LONGEST: usize = 65536;
 
+fn is_newline(b: u8) -> bool
+    ensures { λ r. ⌜ r ≡ eqb b 10 ⌝ }
+{
+    b == b'\n'
+}
+
 // Where the first line ends, if a byte 10 ends it.
 pub fn line_end_of(text: &[u8]) -> Option<usize>
     ensures value { λ r. ⌜ r ≡ line-end 0 (now (text .entry)) ⌝ }
     ensures bound { λ r. ⌜ BySome r (Unit {0}) (λ i. i < length (now (text .entry))) ⌝ }
 {
     for (i, b) in text.iter().enumerate() {
-        if *b == b'\n' {
+        if is_newline(*b) {
             return Some(i);
         }
     }

@@ -12,6 +12,7 @@ use Rattle.kinds.specs.Laws.{Judged}
 use Rattle.program.specs.declared.program.Program.{Program}
 use Rattle.program.specs.Checks.{Checks}
 use Rattle.program.proofs.Said.{says}
+use Rattle.program.proofs.Sound.{sound}
 use Rattle.program.proofs.check.check.Needs as need
 
 refused : (bs : List ℕ) (p : Program) (x : Refusal) → Judged {T = Unit {0}} bs (Err x) → Checks bs p (Err x) p
@@ -19,7 +20,7 @@ refused bs p (Fault f) j = (j, refl)
 refused bs p Memory j = refl
 
 pub returns : need.returns
-returns c = (c .in-Continue-check-kinds .ensures tt .judged, says (now (c .args .text)) (c .in-Continue-place .field-0) (c .in-Continue-check-kinds .ensures tt .tells) (c .in-Continue-place .ensures tt))
+returns c = (c .in-Continue-check-kinds .ensures tt .judged, says (now (c .args .text)) (c .in-Continue-place .field-0) (c .in-Continue-check-kinds .ensures tt .tells) (c .in-Continue-place .ensures tt), sound (c .in-Continue-place .field-0))
 
 pub returns-in-Break-check-kinds : need.returns-in-Break-check-kinds
 returns-in-Break-check-kinds c =

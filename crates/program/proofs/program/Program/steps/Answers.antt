@@ -4,14 +4,14 @@ use native.Mathlib.Omega.{arith}
 use borrow.Author.Needs.{needs}
 use lib.ListN.{length, drop}
 use Rattle.std.specs.Of.Vec.{vec-items}
-use Rattle.program.specs.Steps.{steps-of, steps-in}
-use Rattle.program.proofs.Steps.{at-most, steps-more, steps-all}
+use Rattle.program.proofs.Sound.{sound}
+use Rattle.program.proofs.Steps.{steps, steps-more, steps-all}
 use Rattle.program.proofs.program.Program.steps.Needs as need
 
 pub loop-function-holds : need.loop-function-holds
 loop-function-holds c = omega arith
 
-one-more : (c : need.After-len) → steps-in (drop (c .loop-function .function-index) (vec-items (c .args .self .now .functions))) ≡ c .len .result + 1 + steps-in (drop (c .loop-function .function-index + 1) (vec-items (c .args .self .now .functions)))
+one-more : (c : need.After-len) → steps (drop (c .loop-function .function-index) (vec-items (c .args .self .now .functions))) ≡ c .len .result + 1 + steps (drop (c .loop-function .function-index + 1) (vec-items (c .args .self .now .functions)))
 one-more c =
     let f = c .function-item .result in
     let fs = vec-items (c .args .self .now .functions) in
@@ -22,7 +22,7 @@ one-more c =
 pub add-steps-in-loop-function : need.add-steps-in-loop-function
 add-steps-in-loop-function c =
     let p = c .args .self .now in
-    let most = at-most (p .numbers) (p .lists) (vec-items (p .run)) (vec-items (p .functions)) (p .keeps) in
+    let most = sound p .steps-fit in
     let h : c .loop-function .steps + (c .len .result + 1) ≤ 512 = omega (arith, one-more c, c .loop-function .inv, most) in
     search needs
 
@@ -32,6 +32,6 @@ loop-function-again c = omega (arith, one-more c, c .loop-function .inv)
 pub returns : need.returns
 returns c =
     let p = c .args .self .now in
-    let most = at-most (p .numbers) (p .lists) (vec-items (p .run)) (vec-items (p .functions)) (p .keeps) in
+    let most = sound p .steps-fit in
     let e = steps-all (c .as-slice-function-items .result .now) (vec-items (p .functions)) (c .loop-function .function-index) (c .as-slice-function-items .ensures .value) (omega arith) in
     record { value = omega (arith, e, c .loop-function .inv); bound = omega (arith, e, most, c .loop-function .inv) }

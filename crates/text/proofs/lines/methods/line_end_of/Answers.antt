@@ -8,19 +8,19 @@ use Rattle.text.specs.Lines.{line-end}
 use Rattle.text.proofs.Cuts.{end-here, end-on}
 use Rattle.text.proofs.lines.methods.line_end_of.Needs as need
 
-pub returns-then-b-eq10 : need.returns-then-b-eq10
-returns-then-b-eq10 c =
+pub returns-then-is-newline : need.returns-then-is-newline
+returns-then-is-newline c =
     let l = c .loop-i in
     let xs = c .args .text .now in
     let e = at-drop-more (line-end (l .i)) xs (l .i) 0 (c .loop-i-test .taken) in
-    record { value = sym (sym (l .inv) ∙ e ∙ end-here (l .i) (getD xs (l .i) 0) (drop (l .i + 1) xs) (c .if-b-eq10 .taken)); bound = c .loop-i-test .taken }
+    record { value = sym (sym (l .inv) ∙ e ∙ end-here (l .i) (getD xs (l .i) 0) (drop (l .i + 1) xs) (c .if-is-newline .ensures tt)); bound = c .loop-i-test .taken }
 
 pub loop-i-again : need.loop-i-again
 loop-i-again c =
     let l = c .loop-i in
     let xs = c .args .text .now in
     let e = at-drop-more (line-end (l .i)) xs (l .i) 0 (c .loop-i-test .taken) in
-    sym (end-on (l .i) (getD xs (l .i) 0) (drop (l .i + 1) xs) (c .if-b-eq10 .left)) ∙ sym e ∙ l .inv
+    sym (end-on (l .i) (getD xs (l .i) 0) (drop (l .i + 1) xs) (c .if-is-newline .ensures tt)) ∙ sym e ∙ l .inv
 
 pub returns : need.returns
 returns c =
