@@ -5,7 +5,7 @@ ghost use Rattle.std.specs.shelf.Text.{sameBytes};
 ghost use Rattle.text.specs.Lines.{lines-in};
 ghost use Rattle.journal.specs.Journal.{text-of, behind-text};
 ghost use Rattle.journal.specs.Cut.{Cut};
-use text::lines::methods::line_end_of;
+use text::cut::line_end_of;
 
 // Whether a line is just this word.
 pub(crate) fn spells(line: &[u8], word: &[u8]) -> bool

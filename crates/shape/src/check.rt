@@ -4,8 +4,8 @@ ghost use Rattle.shape.specs.Shapes.{shape-fault};
 use crate::fault::ShapeFault;
 use crate::fault::ShapeFromLine;
 use crate::standing::Standing;
+use text::check::check_lines;
 use text::lines::Lines;
-use text::lines::methods::check_lines;
 
 // Layers 1 and 2.
 pub fn check_shape(text: &[u8]) -> Result<(), ShapeFault>

@@ -9,7 +9,7 @@ ghost use Rattle.text.specs.Numbers.{fields-stand, whole-of, kind-of};
 ghost use Rattle.text.specs.Values.{values};
 
 // The columns of a field.
-const WIDTH: usize = 6;
+pub(crate) const WIDTH: usize = 6;
 
 // What a register holds: a number, a modifiable with a number, a modifiable with a list.
 #[derive(Clone, Copy, PartialEq, Eq, Debug)]

@@ -3,7 +3,11 @@ ghost use lib.ListN.{length};
 ghost use Rattle.text.specs.Lines.{word-of, line-of};
 ghost use Rattle.text.specs.Told.{told, numbered, said, told-line};
 use crate::fields::Fields;
+use crate::fields::WIDTH;
 use crate::fields::all_stand;
+
+// The columns of nine fields.
+const MOST_COLUMNS: usize = 54;
 
 // The words that a line may begin with.
 #[derive(Clone, Copy, PartialEq, Eq, Debug)]
@@ -143,7 +147,7 @@ pub(crate) fn read(number: usize, bytes: &[u8]) -> Result<Line<'_>, LineFault>
     let [a, b, c, columns @ ..] = bytes else {
         return Err(LineFault::Length { line: number });
     };
-    if columns.len() % 6 != 0 || columns.len() > 54 {
+    if columns.len() % WIDTH != 0 || columns.len() > MOST_COLUMNS {
         return Err(LineFault::Length { line: number });
     }
     let Some(word) = spelled(*a, *b, *c) else {

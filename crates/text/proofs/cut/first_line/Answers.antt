@@ -11,7 +11,7 @@ use Rattle.text.specs.Lines.{line-of}
 use Rattle.text.specs.Told.{numbered, said, told-line}
 use Rattle.text.specs.Reader.{Reads}
 use Rattle.text.proofs.Cuts.{reads, falls, unended}
-use Rattle.text.proofs.lines.methods.first_line.Needs as need
+use Rattle.text.proofs.cut.first_line.Needs as need
 
 pub returns-in-rest : need.returns-in-rest
 returns-in-rest c = unended (c .args .number) (now (c .args .text)) (c .pre) (sym (c .in-rest .ensures tt .value))

@@ -10,7 +10,7 @@ use Rattle.std.specs.declared.result.Result.the-variants.{Err}
 use Rattle.text.specs.First.{answer}
 use Rattle.text.specs.Lines.{line-fault, lines-in, text-fault}
 use Rattle.text.proofs.Cuts.{in-length, read-on, fallen}
-use Rattle.text.proofs.lines.methods.check_each.Needs as need
+use Rattle.text.proofs.check.check_each.Needs as need
 
 pub returns : need.returns
 returns c =

@@ -6,7 +6,7 @@ use lib.ListN.{getD, drop}
 use Rattle.std.proofs.shelf.Lists.{at-drop-more, at-drop-all}
 use Rattle.text.specs.Lines.{line-end}
 use Rattle.text.proofs.Cuts.{end-here, end-on}
-use Rattle.text.proofs.lines.methods.line_end_of.Needs as need
+use Rattle.text.proofs.cut.line_end_of.Needs as need
 
 pub returns-then-is-newline : need.returns-then-is-newline
 returns-then-is-newline c =
