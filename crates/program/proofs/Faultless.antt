@@ -18,16 +18,12 @@ use Rattle.shape.specs.declared.standing.Due.the-variants as d
 use Rattle.shape.specs.Shapes.{start, shape-fault, shape-fault-of}
 use Rattle.kinds.specs.declared.fault.KindFault.{KindFault}
 use Rattle.kinds.specs.Kinds.{fault-of, kind-fault-of, over-shape, heads-of, unknown}
-use Rattle.kinds.proofs.Over.{shaped}
+use Rattle.kinds.proofs.Over.{shaped, none-over}
 use Rattle.program.specs.declared.function.Function.{Function}
 use Rattle.program.specs.Programs.{lines-fault, function-lines, lines-with}
 use Rattle.program.specs.Formed.{Formed, Gives, entry-of, entries}
 use Rattle.program.proofs.Formed.{formed}
 use Rattle.program.proofs.Lines.{opening, program-read}
-
-pub none-over : (o : Option ShapeFault) (q : Option KindFault) → over-shape o q ≡ None → (o ≡ None) × (q ≡ None)
-none-over None q e = (refl, e)
-none-over (Some x) q e = absurd (let z : _≡_ {A = ℕ} 0 1 = cc in omega arith)
 
 some-longer : (b : ℕ) (ls : List Raw) → none-left (map reading (longer b ls)) ≡ false
 some-longer b [] = refl

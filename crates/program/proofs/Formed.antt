@@ -20,6 +20,7 @@ use Rattle.text.specs.declared.line.Word.the-variants as w
 use Rattle.text.specs.First.{first, or-else, none-left}
 use Rattle.text.specs.Lines.{Said}
 use Rattle.text.specs.Numbers.{whole-of, kind-of}
+use Rattle.text.proofs.Passes.{or-none}
 use Rattle.shape.specs.declared.standing.Part.{Part}
 use Rattle.shape.specs.declared.standing.Part.the-variants as p
 use Rattle.shape.specs.declared.standing.Due.{Due}
@@ -33,10 +34,6 @@ use Rattle.kinds.specs.Kinds.{Known, agrees, known-after, kind-rules, kinds-in,
 use Rattle.program.specs.Programs.{wholes, kind-number}
 use Rattle.program.specs.Formed.{Held, Whole, entries, due-after, Formed}
 use Rattle.program.proofs.Entries.{both, named-whole}
-
-pub or-none : {F : Type 0} (o q : Option F) → or-else o q ≡ None → (o ≡ None) × (q ≡ None)
-or-none None q e = (refl, e)
-or-none (Some f) q e = absurd (let z : _≡_ {A = ℕ} 0 1 = cc in omega arith)
 
 pub all-three : {F : Type 0} (a b c : Bool) (f g h : F) → cond a (cond b (cond c None (Some f)) (Some g)) (Some h) ≡ None → (a ≡ true) × (b ≡ true) × (c ≡ true)
 all-three true true true f g h e = (refl, refl, refl)

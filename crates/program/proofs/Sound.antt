@@ -38,20 +38,14 @@ use Rattle.program.specs.declared.arith.Op.the-variants as o
 use Rattle.program.specs.declared.program.Program.{Program}
 use Rattle.program.specs.Programs.{op-word, kind-number, wholes, lines-fault}
 use Rattle.program.specs.View.{Command-view, LIT, APPLY, NEW, Tail-view, PUT, NIL, CON, GET, CAS, Function-view, View, viewed}
+use Rattle.text.proofs.Passes.{or-none}
+use Rattle.kinds.proofs.Over.{none-over}
 use Rattle.program.specs.Sound.{Holds, Agree, no-function, function-at, Enters, Goes-on, Command-sound, made-kind, Tail-sound, Body-sound, steps-in, input-kinds, Sound}
 use Rattle.program.proofs.Entries.{both}
 use Rattle.program.proofs.Kept.{kept}
 use Rattle.program.proofs.Viewed.{command-said, tail-said, body-said, function-said, view-said, lines-same, kind-told, kind-back, kinds-back}
 
 -- rules that tell no fault are kept
-neither : {F : Type 0} (a b : Option F) → or-else a b ≡ None → (a ≡ None) × (b ≡ None)
-neither None b e = (refl, e)
-neither (Some x) b e = absurd (let z : _≡_ {A = ℕ} 0 1 = cc in omega arith)
-
-no-layer : (a : Option ShapeFault) (b : Option KindFault) → over-shape a b ≡ None → (a ≡ None) × (b ≡ None)
-no-layer None b e = (refl, e)
-no-layer (Some x) b e = absurd (let z : _≡_ {A = ℕ} 0 1 = cc in omega arith)
-
 passed : {F : Type 0} (b : Bool) (a : Option F) (x : F) → cond b a (Some x) ≡ None → (b ≡ true) × (a ≡ None)
 passed true a x e = (refl, e)
 passed false a x e = absurd (let z : _≡_ {A = ℕ} 0 1 = cc in omega arith)
@@ -153,7 +147,7 @@ module _ (v : View) where
 
   line : (ks : List Kind) (r : Kind) (n : ℕ) (j : Word) (zs : List ℤ) (ls : List Said) → Keeps (ks, r) n ((j, zs) ∷ ls) → (all-there (length ks) (length heads) j 0 zs ≡ true) × (agrees heads ks r j zs ≡ true) × Keeps (known-after heads (ks, r) (j, zs)) (n + 1) ls
   line ks r n j zs ls e =
-      let a = neither (kind-rules heads (ks, r) n (j, zs) (none-left ls)) (first (known-after heads) (kind-rules heads) (known-after heads (ks, r) (j, zs)) (n + 1) ls) e in
+      let a = or-none (kind-rules heads (ks, r) n (j, zs) (none-left ls)) (first (known-after heads) (kind-rules heads) (known-after heads (ks, r) (j, zs)) (n + 1) ls) e in
       let b = passed (all-there (length ks) (length heads) j 0 zs) (cond (agrees heads ks r j zs) None (Some (f.Kinds n))) (f.Missing n) (a .0) in
       (b .0, passed (agrees heads ks r j zs) None (f.Kinds n) (b .1) .0, a .1)
 
@@ -261,7 +255,7 @@ Stands s n ls = first after shape-rules s n ls ≡ None
 
 shape : (s : Standing) (n : ℕ) (j : Word) (zs : List ℤ) (ls : List Said) (x : Part) → part-of j ≡ x → Stands s n ((j, zs) ∷ ls) → (placed (s .due) x (none-left ls) ≡ true) × (counted j (length zs) ≡ true) × (ranged s x zs ≡ true) × Stands (behind-part s x (length zs)) (n + 1) ls
 shape s n j zs ls x q e =
-    let a = neither (shape-rules s n (j, zs) (none-left ls)) (first after shape-rules (after s (j, zs)) (n + 1) ls) e in
+    let a = or-none (shape-rules s n (j, zs) (none-left ls)) (first after shape-rules (after s (j, zs)) (n + 1) ls) e in
     let b = passed (placed (s .due) (part-of j) (none-left ls)) (cond (counted j (length zs)) (cond (ranged s (part-of j) zs) None (Some (g.Range n))) (Some (g.Count n))) (g.Position n) (a .0) in
     let c = passed (counted j (length zs)) (cond (ranged s (part-of j) zs) None (Some (g.Range n))) (g.Count n) (b .1) in
     let d = passed (ranged s (part-of j) zs) None (g.Range n) (c .1) in
@@ -331,7 +325,7 @@ sound-view v e =
     let ls = view-said v in
     let fs = joined function-said (v .functions) in
     let zs = pos (v .numbers) ∷ pos (v .lists) ∷ [] in
-    let a = no-layer (shape-fault-of ls) (kind-fault-of ls) e in
+    let a = none-over (shape-fault-of ls) (kind-fault-of ls) e in
     let i = shape start 1 w.Inp zs ((w.Run, wholes (v .run)) ∷ fs) p.Inputs refl (a .0) in
     let s₁ = behind-part start p.Inputs 2 in
     let r = shape s₁ (1 + 1) w.Run (wholes (v .run)) fs p.Run refl (i .3) in

@@ -21,6 +21,7 @@ use Rattle.text.specs.First.{or-else, no-fault, none-left}
 use Rattle.text.specs.Lines.{Said, Told, line-end, line-of, Raw, longer, lines-in, line-fault, line-rules, fault-in, standing, lines-of, reading, worded, word-of, or-nil, text-fault}
 use Rattle.text.specs.Numbers.{fields-stand, numbers-in}
 use Rattle.text.specs.Reader.{Reads, Falls}
+use Rattle.text.proofs.Passes.{or-none}
 
 pub end-here : (i b : ℕ) (bs : List ℕ) → true ≡ eqb b 10 → line-end i (b ∷ bs) ≡ Some i
 end-here i b bs e = ap (λ t. cond t (Some i) (line-end (i + 1) bs)) (sym e)
@@ -133,10 +134,6 @@ pub lines-left : (n m : ℕ) (bs : List ℕ) (x : Said) (behind : List ℕ) → 
 lines-left n m bs x behind r =
     let e = line-said n (r .line) (m, x) (r .stands) in
     (ap (standing n) (r .lines) ∙ ap (λ t. cond (no-fault (fault-in t)) (reading (true, r .line) ∷ standing (n + 1) (lines-in behind)) []) (r .stands) ∙ ap (λ (y : Told). y .1 ∷ standing (n + 1) (lines-in behind)) (sym e), ap (λ (y : Told). y .0) e)
-
-or-none : {F : Type 0} (o p : Option F) → or-else o p ≡ None → (o ≡ None) × (p ≡ None)
-or-none None p e = (refl, e)
-or-none (Some f) p e = absurd (let z : _≡_ {A = ℕ} 0 1 = cc in omega arith)
 
 by-length : (a b : Bool) (o : Option LineFault) → cond a (cond b o (Some (f.Length 0))) (Some (f.Length 0)) ≡ None → o ≡ None
 by-length true true o e = e

@@ -3,5 +3,5 @@ mod Numbers
 mod LineForms
 mod Columns
 pub mod Rendered
-pub mod Cuts
 pub mod Passes
+pub mod Cuts

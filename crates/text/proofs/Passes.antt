@@ -16,6 +16,11 @@ use Rattle.text.specs.Lines.{Said}
 use Rattle.text.specs.Told.{numbered, said}
 use Rattle.text.specs.Reader.{left, passed, ahead, Hands-out}
 
+-- where no fault is told, neither the first line nor those behind it have one
+pub or-none : {F : Type 0} (o q : Option F) → or-else o q ≡ None → (o ≡ None) × (q ≡ None)
+or-none None q e = (refl, e)
+or-none (Some f) q e = absurd (let z : _≡_ {A = ℕ} 0 1 = cc in omega arith)
+
 pub ahead-is : (l : Lines) (o : Option Line) (m : Lines) → Hands-out l o m → ahead o m ≡ left l
 ahead-is l None m h = sym (h .0)
 ahead-is l (Some x) m h = sym (h .0)
