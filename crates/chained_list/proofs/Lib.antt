@@ -1,0 +1,14 @@
+pub mod Strings
+pub mod Spread
+pub mod Clear
+pub mod Writes
+pub mod Places
+pub mod Marks
+pub mod Looks
+pub mod Remove
+pub mod Neighbours
+pub mod Standing
+pub mod Spreads
+pub mod Levels
+pub mod TagInsert
+pub mod Ranks
