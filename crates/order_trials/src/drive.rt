@@ -47,7 +47,7 @@ fn step<A: OrderList, B: OrderList>(one: &mut A, other: &mut B, i: usize) -> boo
 }
 
 /// Does the calls on both lists, and says whether each answer was the same, and `before` and `next` after each call.
-pub fn drive<A: OrderList, B: OrderList>(one: &mut A, other: &mut B, calls: usize) -> bool
+pub(crate) fn drive<A: OrderList, B: OrderList>(one: &mut A, other: &mut B, calls: usize) -> bool
     requires { ⌜ A·OrderList .sound (now one) ⌝ ∗ ⌜ B·OrderList .sound (now other) ⌝ }
     ensures { λ _. ⌜ A·OrderList .sound (now (one .exit)) × B·OrderList .sound (now (other .exit)) ⌝ }
 {
