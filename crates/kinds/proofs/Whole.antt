@@ -1,6 +1,6 @@
 -- The fault that is told is the least of all that the text has, and none is told exactly when it has none.
 use mathlib.Core.Path.{_≡_, refl, ap, sym, subst, _∙_}
-use mathlib.Core.Bool.{Bool, true, false, cond}
+use mathlib.Core.Bool.{Bool, true, false, cond, _&&_}
 use mathlib.Core.List.{List, [], _∷_, _++_}
 use mathlib.Core.Logic.{_⊎_, inl, inr, ⊎-elim}
 use Prim.Native.Nat.{ℕ, zero, suc, _+_, _-_, _/_, _%_, _<_, _≤_}
@@ -23,7 +23,7 @@ use Rattle.kinds.specs.declared.fault.KindFault.the-variants as k
 use Rattle.text.specs.First.{first}
 use Rattle.kinds.specs.Faults.{number-of, layer-of, line-at}
 use Rattle.text.specs.Numbers.{fields-stand, numbers-in}
-use Rattle.text.specs.Lines.{Told as Line-told, word-of, worded, Raw, lines-in, same, line-rules, line-fault, text-fault, fault-in, lines-of}
+use Rattle.text.specs.Lines.{Told as Line-told, word-of, right-length, worded, Raw, lines-in, same, line-rules, line-fault, text-fault, fault-in, lines-of}
 use Rattle.shape.specs.Shapes.{after, start, shape-rules, shape-fault-of, over-lines}
 use Rattle.kinds.specs.Kinds.{known-after, kind-rules, unknown, heads-of, kind-fault-of, over-shape, fault-of}
 use Rattle.kinds.specs.Laws.{Breaks, keeps-line, keeps-shape, keeps-kinds, Has-fault, of-length, of-line, of-shape, of-kinds, Not-after, Least, Faultless}
@@ -42,15 +42,13 @@ by-word : (n : ℕ) (o : Option Word) (fs : List ℕ) → fault-in (worded n o f
 by-word n None fs = refl
 by-word n (Some k) fs = by-fields n k fs (fields-stand (length fs / 6) fs)
 
-by-length : (n : ℕ) (a b c : Bool) (o : Option Word) (fs : List ℕ) → fault-in (cond a (cond b (cond c (worded n o fs) (Err (f.Length n))) (Err (f.Length n))) (Err (f.Length n))) ≡ judge (cond a (cond b c false) false) (isSome o) (fields-stand (length fs / 6) fs) (f.Length n) (f.Word n) (f.Field n)
-by-length n false b c o fs = refl
-by-length n true false c o fs = refl
-by-length n true true false o fs = refl
-by-length n true true true o fs = by-word n o fs
+by-length : (n : ℕ) (b : Bool) (o : Option Word) (fs : List ℕ) → fault-in (cond b (worded n o fs) (Err (f.Length n))) ≡ judge b (isSome o) (fields-stand (length fs / 6) fs) (f.Length n) (f.Word n) (f.Field n)
+by-length n false o fs = refl
+by-length n true o fs = by-word n o fs
 
 line-by : (s : Unit {0}) (n : ℕ) (x : Raw) (b : Bool) → line-rules s n x b ≡ judge (keeps-line 0 s x b) (keeps-line 1 s x b) (keeps-line 2 s x b) (f.Length n) (f.Word n) (f.Field n)
 line-by s n (false, l) b = refl
-line-by s n (true, l) b = by-length n (leb 3 (length l)) (eqb ((length l - 3) % 6) 0) (leb (length l - 3) 54) (word-of (getD l 0 0) (getD l 1 0) (getD l 2 0)) (drop 3 l)
+line-by s n (true, l) b = by-length n (right-length (length l)) (word-of (getD l 0 0) (getD l 1 0) (getD l 2 0)) (drop 3 l)
 
 abbrev shape-fault-by : ℕ → ℕ → ShapeFault
 shape-fault-by zero n = e.Position n
@@ -88,14 +86,14 @@ module _ (bs : List ℕ) where
   of-told lo hi i (suc (suc zero)) s h least = record { has = of-line i 2 h; least = in-lines lo hi i 2 least }
   of-told lo hi i (suc (suc (suc r))) s h least = absurd (omega arith)
 
-  line-least : (a b : Bool) → leb 1 (length bs) ≡ a → leb (length bs) 65536 ≡ b → (x : LineFault) → cond a (cond b (line-fault 1 (lines-in bs)) (Some (f.Length 0))) (Some (f.Length 0)) ≡ Some x → Least bs (k.Shape (e.Line x))
+  line-least : (a b : Bool) → leb 1 (length bs) ≡ a → leb (length bs) 65536 ≡ b → (x : LineFault) → cond (a && b) (line-fault 1 (lines-in bs)) (Some (f.Length 0)) ≡ Some x → Least bs (k.Shape (e.Line x))
   line-least false b p q x h = let i : f.Length 0 ≡ x = cc in let l : (length bs ≡ 0) ⊎ (65536 < length bs) = inl (omega (arith, leb-false 1 (length bs) p)) in subst (λ (y : LineFault). Least bs (k.Shape (e.Line y))) i (record { has = of-length l; least = over-length l })
   line-least true false p q x h = let i : f.Length 0 ≡ x = cc in let l : (length bs ≡ 0) ⊎ (65536 < length bs) = inr (leb-false (length bs) 65536 q) in subst (λ (y : LineFault). Least bs (k.Shape (e.Line y))) i (record { has = of-length l; least = over-length l })
   line-least true true p q x h =
       let t = told same line-rules keeps-line line-fault-by line-by (λ r s x b. refl) tt 1 (lines-in bs) x h in
       subst (λ (y : LineFault). Least bs (k.Shape (e.Line y))) (sym (t .is)) (of-told (leb-true 1 (length bs) p) (leb-true (length bs) 65536 q) (t .at) (t .rule) (t .small) (t .breaks) (t .least))
 
-  line-clean : (a b : Bool) → leb 1 (length bs) ≡ a → leb (length bs) 65536 ≡ b → cond a (cond b (line-fault 1 (lines-in bs)) (Some (f.Length 0))) (Some (f.Length 0)) ≡ None → (1 ≤ length bs) × (length bs ≤ 65536) × ((j q : ℕ) → Breaks same keeps-line tt 1 (lines-in bs) j q → ⊥)
+  line-clean : (a b : Bool) → leb 1 (length bs) ≡ a → leb (length bs) 65536 ≡ b → cond (a && b) (line-fault 1 (lines-in bs)) (Some (f.Length 0)) ≡ None → (1 ≤ length bs) × (length bs ≤ 65536) × ((j q : ℕ) → Breaks same keeps-line tt 1 (lines-in bs) j q → ⊥)
   line-clean false b p q h = absurd (let z : _≡_ {A = ℕ} 0 1 = cc in omega arith)
   line-clean true false p q h = absurd (let z : _≡_ {A = ℕ} 0 1 = cc in omega arith)
   line-clean true true p q h = (leb-true 1 (length bs) p, leb-true (length bs) 65536 q, clean same line-rules keeps-line line-fault-by line-by (λ r s x b. refl) tt 1 (lines-in bs) h)

@@ -76,22 +76,22 @@ is-kind ks zs j k = same-kind (kind-in ks (whole-of (getD zs j (pos 0)))) (Some 
 abbrev pub starts : List Kind → List ℤ → Bool
 starts [] ps = true
 starts (k ∷ ks) [] = false
-starts (k ∷ ks) (p ∷ ps) = cond (same-kind (Some k) (kind-of p)) (starts ks ps) false
+starts (k ∷ ks) (p ∷ ps) = same-kind (Some k) (kind-of p) && starts ks ps
 
 -- parameters that agree with the registers named as arguments, in number and kind
 abbrev pub takes : List Kind → List ℤ → List ℤ → Bool
 takes ks [] [] = true
 takes ks [] (p ∷ ps) = false
 takes ks (z ∷ zs) [] = false
-takes ks (z ∷ zs) (p ∷ ps) = cond (same-kind (kind-in ks (whole-of z)) (kind-of p)) (takes ks zs ps) false
+takes ks (z ∷ zs) (p ∷ ps) = same-kind (kind-in ks (whole-of z)) (kind-of p) && takes ks zs ps
 
 -- a function of this head is entered with values of the kinds `lead`, then the arguments
 abbrev pub accepts : List ℤ → List Kind → List Kind → List ℤ → Bool
-accepts h lead ks args = cond (starts lead (drop 1 h)) (takes ks args (drop (length lead) (drop 1 h))) false
+accepts h lead ks args = starts lead (drop 1 h) && takes ks args (drop (length lead) (drop 1 h))
 
 -- entered by a tail, whose function has the result kind r
 abbrev pub entered : List ℤ → Kind → List Kind → List Kind → List ℤ → Bool
-entered h r lead ks args = cond (same-kind (Some r) (kind-of (getD h 0 (pos 0)))) (accepts h lead ks args) false
+entered h r lead ks args = same-kind (Some r) (kind-of (getD h 0 (pos 0))) && accepts h lead ks args
 
 abbrev pub head-at : List (List ℤ) → List ℤ → ℕ → List ℤ
 head-at hs zs j = head-in hs (whole-of (getD zs j (pos 0)))

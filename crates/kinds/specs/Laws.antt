@@ -1,6 +1,6 @@
 -- All the faults that a text has, rule by rule; and which of them is told.
 use mathlib.Core.Path.{_≡_}
-use mathlib.Core.Bool.{Bool, true, false, cond}
+use mathlib.Core.Bool.{Bool, true, false, cond, _&&_}
 use mathlib.Core.List.{List, [], _∷_, _++_}
 use mathlib.Core.Logic.{_⊎_}
 use Prim.Native.Nat.{ℕ, zero, suc, _+_, _-_, _/_, _%_, _<_, _≤_}
@@ -13,7 +13,7 @@ use Rattle.std.specs.declared.result.Result.{Result}
 use Rattle.std.specs.declared.result.Result.the-variants.{Ok, Err}
 use Rattle.text.specs.First.{none-left}
 use Rattle.text.specs.Numbers.{fields-stand}
-use Rattle.text.specs.Lines.{word-of, Raw, lines-in, same, Said, lines-of}
+use Rattle.text.specs.Lines.{word-of, right-length, Raw, lines-in, same, Said, lines-of}
 use Rattle.shape.specs.declared.standing.Standing.{Standing}
 use Rattle.shape.specs.Parts.{placed, part-of, counted}
 use Rattle.shape.specs.Shapes.{ranged, after, start}
@@ -34,11 +34,11 @@ pub record Breaks {S X : Type 0} (next : S → X → S) (keeps : ℕ → S → X
   pub broken : keeps r (folded next s before) line (none-left behind) ≡ false
 
 -- layer 1: the length of a line, its word, its fields
-abbrev pub right-length : Raw → Bool
-right-length (e, l) = cond e (cond (leb 3 (length l)) (cond (eqb ((length l - 3) % 6) 0) (leb (length l - 3) 54) false) false) false
+abbrev pub ended-well : Raw → Bool
+ended-well (e, l) = e && right-length (length l)
 
 abbrev pub keeps-line : ℕ → Unit {0} → Raw → Bool → Bool
-keeps-line zero s x last = right-length x
+keeps-line zero s x last = ended-well x
 keeps-line (suc zero) s (e, l) last = isSome (word-of (getD l 0 0) (getD l 1 0) (getD l 2 0))
 keeps-line (suc (suc zero)) s (e, l) last = fields-stand (length (drop 3 l) / 6) (drop 3 l)
 keeps-line (suc (suc (suc r))) s x last = true

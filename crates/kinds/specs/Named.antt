@@ -1,6 +1,6 @@
 -- What the fields of a line name.
 use mathlib.Core.Path.{_≡_}
-use mathlib.Core.Bool.{Bool, true, false, cond}
+use mathlib.Core.Bool.{Bool, true, false, cond, _&&_}
 use mathlib.Core.List.{List, [], _∷_}
 use Prim.Native.Nat.{ℕ, _+_}
 use lib.Dec.{eqb, ltb}
@@ -44,4 +44,4 @@ there rs fs m.Function o = below fs o
 
 abbrev pub all-there : ℕ → ℕ → Word → ℕ → List ℤ → Bool
 all-there rs fs k j [] = true
-all-there rs fs k j (z ∷ zs) = cond (there rs fs (names k j) (whole-of z)) (all-there rs fs k (j + 1) zs) false
+all-there rs fs k j (z ∷ zs) = there rs fs (names k j) (whole-of z) && all-there rs fs k (j + 1) zs

@@ -1,11 +1,12 @@
 -- A line that keeps the rules is the line of the command that is read from it.
 use mathlib.Core.Path.{_≡_, refl, ap, sym, _∙_}
-use mathlib.Core.Bool.{Bool, true, false, cond}
+use mathlib.Core.Bool.{Bool, true, false, cond, _&&_}
 use mathlib.Core.List.{List, [], _∷_, map}
 use Prim.Native.Nat.{ℕ, zero, suc, _+_, _≤_, _<_}
 use native.Mathlib.Omega.{arith}
 use lib.ListN.{length, getD, drop}
 use lib.IntN.{ℤ, pos, negsuc}
+use Rattle.std.proofs.shelf.Tests.{and-parts}
 use Rattle.text.specs.declared.line.Word.{Word}
 use Rattle.kinds.specs.declared.rules.Names.{Names}
 use Rattle.kinds.specs.declared.rules.Names.the-variants as m
@@ -20,15 +21,11 @@ back rs fs m.Value (negsuc n) h e = absurd (h refl)
 back rs fs m.Register (negsuc n) h e = absurd (let z : _≡_ {A = ℕ} 0 1 = cc in omega arith)
 back rs fs m.Function (negsuc n) h e = absurd (let z : _≡_ {A = ℕ} 0 1 = cc in omega arith)
 
-pub both : (a b : Bool) → cond a b false ≡ true → (a ≡ true) × (b ≡ true)
-both true b e = (refl, e)
-both false b e = absurd (let z : _≡_ {A = ℕ} 0 1 = cc in omega arith)
-
 -- what is there is not negative
 pub named-whole : (rs fs : ℕ) (k : Word) (j : ℕ) (zs : List ℤ) → ((i : ℕ) → names k i ≡ m.Value → ⊥) → all-there rs fs k j zs ≡ true → wholes (entries zs) ≡ zs
 named-whole rs fs k j [] h e = refl
 named-whole rs fs k j (z ∷ zs) h e =
-    let p = both (there rs fs (names k j) (whole-of z)) (all-there rs fs k (j + 1) zs) e in
+    let p = and-parts (there rs fs (names k j) (whole-of z)) (all-there rs fs k (j + 1) zs) e in
     ap (λ y. y ∷ wholes (entries zs)) (back rs fs (names k j) z (h j) (p .0)) ∙ ap (λ ys. z ∷ ys) (named-whole rs fs k (j + 1) zs h (p .1))
 
 pub two-back : (zs : List ℤ) → length zs ≡ 2 → wholes (entries zs) ≡ zs → pos (entry-of (getD zs 0 (pos 0))) ∷ pos (entry-of (getD zs 1 (pos 0))) ∷ [] ≡ zs

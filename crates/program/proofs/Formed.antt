@@ -1,6 +1,6 @@
 -- Lines without a fault are formed: in the right order, each with fields that can be read back.
 use mathlib.Core.Path.{_≡_, refl, ap, sym, subst, _∙_}
-use mathlib.Core.Bool.{Bool, true, false, cond}
+use mathlib.Core.Bool.{Bool, true, false, cond, _&&_}
 use mathlib.Core.List.{List, [], _∷_, map}
 use mathlib.Core.Logic.{⊎-elim}
 use Prim.Native.Nat.{ℕ, zero, suc, _+_, _≤_, _<_}
@@ -8,7 +8,7 @@ use native.Mathlib.Omega.{arith}
 use lib.Dec.{eqb, leb, ltb}
 use lib.ListN.{length, getD, drop}
 use lib.IntN.{ℤ, pos, negsuc}
-use Rattle.std.proofs.shelf.Tests.{leb-true}
+use Rattle.std.proofs.shelf.Tests.{and-parts, leb-true}
 use Rattle.std.proofs.shelf.Ways.{eqb-tells}
 use Rattle.std.specs.Options.{isSome}
 use Rattle.std.specs.declared.option.Option.{Option}
@@ -33,7 +33,7 @@ use Rattle.kinds.specs.Named.{names, all-there}
 use Rattle.kinds.specs.Kinds.{Known, agrees, known-after, kind-rules, kinds-in, or-number}
 use Rattle.program.specs.Programs.{wholes, kind-number}
 use Rattle.program.specs.Formed.{Held, Whole, entries, due-after, Formed}
-use Rattle.program.proofs.Entries.{both, named-whole}
+use Rattle.program.proofs.Entries.{named-whole}
 
 pub all-three : {F : Type 0} (a b c : Bool) (f g h : F) → cond a (cond b (cond c None (Some f)) (Some g)) (Some h) ≡ None → (a ≡ true) × (b ≡ true) × (c ≡ true)
 all-three true true true f g h e = (refl, refl, refl)
@@ -70,23 +70,23 @@ kind-back (pos n) e = by-number n (eqb n 1) (eqb n 2) (eqb n 3) refl refl refl e
 kinds-back : (zs : List ℤ) → all-kinds zs ≡ true → map kind-number (kinds-in zs) ≡ zs
 kinds-back [] e = refl
 kinds-back (z ∷ zs) e =
-    let h = both (isSome (kind-of z)) (all-kinds zs) e in
+    let h = and-parts (isSome (kind-of z)) (all-kinds zs) e in
     ap (λ y. y ∷ map kind-number (kinds-in zs)) (kind-back z (h .0)) ∙ ap (λ ys. z ∷ ys) (kinds-back zs (h .1))
 
 result-some : (o : Option Kind) → result-kind o ≡ true → isSome o ≡ true
 result-some None e = absurd (let z : _≡_ {A = ℕ} 0 1 = cc in omega arith)
 result-some (Some x) e = refl
 
-head-back : (zs : List ℤ) → 1 ≤ length zs → (b : Bool) → cond b (cond (result-kind (kind-of (getD zs 0 (pos 0)))) (all-kinds (drop 1 zs)) false) false ≡ true → map kind-number (kinds-in zs) ≡ zs
+head-back : (zs : List ℤ) → 1 ≤ length zs → (b : Bool) → (b && (result-kind (kind-of (getD zs 0 (pos 0))) && all-kinds (drop 1 zs))) ≡ true → map kind-number (kinds-in zs) ≡ zs
 head-back [] l b e = absurd (omega arith)
 head-back (z ∷ zs) l b e =
-    let h = both b (cond (result-kind (kind-of z)) (all-kinds zs) false) e in
-    let g = both (result-kind (kind-of z)) (all-kinds zs) (h .1) in
+    let h = and-parts b (result-kind (kind-of z) && all-kinds zs) e in
+    let g = and-parts (result-kind (kind-of z)) (all-kinds zs) (h .1) in
     ap (λ y. y ∷ map kind-number (kinds-in zs)) (kind-back z (result-some (kind-of z) (g .0))) ∙ ap (λ ys. z ∷ ys) (kinds-back zs (g .1))
 
 -- how many fields
 few : (k : Word) (n : ℕ) → counted k n ≡ true → (fewest k ≤ n) × (n ≤ most k)
-few k n e = let h = both (leb (fewest k) n) (leb n (most k)) e in (leb-true (fewest k) n (h .0), leb-true n (most k) (h .1))
+few k n e = let h = and-parts (leb (fewest k) n) (leb n (most k)) e in (leb-true (fewest k) n (h .0), leb-true n (most k) (h .1))
 
 named : (b : Bool) → cond b m.Function m.Register ≡ m.Value → ⊥
 named true e = let z : _≡_ {A = ℕ} 0 1 = cc in omega arith
@@ -126,7 +126,7 @@ due-is s p.Head n = refl
 due-is s p.Command n = refl
 due-is s p.Tail n = refl
 
-tail-last : (b : Bool) (x : Part) → cond b (is-tail x) false ≡ true → due-after x ≡ d.Head
+tail-last : (b : Bool) (x : Part) → (b && is-tail x) ≡ true → due-after x ≡ d.Head
 tail-last b p.Tail e = refl
 tail-last true p.Inputs e = absurd (let z : _≡_ {A = ℕ} 0 1 = cc in omega arith)
 tail-last true p.Run e = absurd (let z : _≡_ {A = ℕ} 0 1 = cc in omega arith)
@@ -144,13 +144,13 @@ module _ (hs : List (List ℤ)) where
       let b = or-none (kind-rules hs (ks, r) n (k, zs) true) None f in
       let q = all-three (placed (s .due) (part-of k) true) (counted k (length zs)) (ranged s (part-of k) zs) _ _ _ (a .0) in
       let t = all-two (all-there (length ks) (length hs) k 0 zs) (agrees hs ks r k zs) _ _ (b .0) in
-      let u = both (fits (s .due) (part-of k)) (is-tail (part-of k)) (q .0) in
+      let u = and-parts (fits (s .due) (part-of k)) (is-tail (part-of k)) (q .0) in
       (u .0, held s (length ks) (length hs) k zs (q .1) (q .2) t, tail-last (fits (s .due) (part-of k)) (part-of k) (q .0))
   formed s (ks, r) n (k, zs) (y ∷ ys) e f =
       let a = or-none (shape-rules s n (k, zs) false) (first after shape-rules (after s (k, zs)) (n + 1) (y ∷ ys)) e in
       let b = or-none (kind-rules hs (ks, r) n (k, zs) false) (first (known-after hs) (kind-rules hs) (known-after hs (ks, r) (k, zs)) (n + 1) (y ∷ ys)) f in
       let q = all-three (placed (s .due) (part-of k) false) (counted k (length zs)) (ranged s (part-of k) zs) _ _ _ (a .0) in
       let t = all-two (all-there (length ks) (length hs) k 0 zs) (agrees hs ks r k zs) _ _ (b .0) in
-      let u = both (fits (s .due) (part-of k)) true (q .0) in
+      let u = and-parts (fits (s .due) (part-of k)) true (q .0) in
       let v = formed (after s (k, zs)) (known-after hs (ks, r) (k, zs)) (n + 1) y ys (a .1) (b .1) in
       (u .0, held s (length ks) (length hs) k zs (q .1) (q .2) t, subst (λ due. Formed due (y ∷ ys)) (due-is s (part-of k) (length zs)) v)

@@ -1,6 +1,6 @@
 -- A program keeps the rules of texts.
 use mathlib.Core.Path.{_≡_, refl, ap, sym, _∙_}
-use mathlib.Core.Bool.{Bool, true, false, cond}
+use mathlib.Core.Bool.{Bool, true, false, cond, _&&_}
 use mathlib.Core.List.{List}
 use Prim.Native.Nat.{ℕ}
 use native.Mathlib.Omega.{arith}
@@ -15,9 +15,9 @@ use Rattle.program.specs.Programs.{lines-with, lines-fault, keeps-rules}
 
 pub keeps : (a b : ℕ) (run : List ℕ) (fs : List Function) (ls : List Said) → lines-with a b run fs ≡ ls → lines-fault ls ≡ None → all-fit ls ≡ true → keeps-rules a b run fs ≡ true
 unfolding keeps-rules
-keeps a b run fs ls e f g = ap (λ xs. cond (no-fault (lines-fault xs)) (all-fit xs) false) e ∙ ap (λ o. cond (no-fault o) (all-fit ls) false) f ∙ g
+keeps a b run fs ls e f g = ap (λ xs. no-fault (lines-fault xs) && all-fit xs) e ∙ ap (λ o. no-fault o && all-fit ls) f ∙ g
 
-split : (o : Option KindFault) (b : Bool) → cond (no-fault o) b false ≡ true → (o ≡ None) × (b ≡ true)
+split : (o : Option KindFault) (b : Bool) → (no-fault o && b) ≡ true → (o ≡ None) × (b ≡ true)
 split None b e = (refl, e)
 split (Some x) b e = absurd (let z : _≡_ {A = ℕ} 0 1 = cc in omega arith)
 

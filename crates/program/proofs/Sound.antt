@@ -9,7 +9,7 @@ use lib.Dec.{leb, ltb}
 use lib.ListN.{length, getD, drop}
 use lib.IntN.{ℤ, pos}
 use Rattle.std.proofs.shelf.Lists.{length-map, length-append, getD-map, drop-map}
-use Rattle.std.proofs.shelf.Tests.{leb-true, ltb-true, lt-ltb, and-parts}
+use Rattle.std.proofs.shelf.Tests.{and-parts, leb-true, ltb-true, lt-ltb, and-parts}
 use Rattle.std.specs.Joined.{joined}
 use Rattle.std.specs.Of.Vec.{vec-items}
 use Rattle.std.specs.declared.option.Option.{Option}
@@ -41,7 +41,6 @@ use Rattle.program.specs.View.{Command-view, LIT, APPLY, NEW, Tail-view, PUT, 
 use Rattle.text.proofs.Passes.{or-none}
 use Rattle.kinds.proofs.Over.{none-over}
 use Rattle.program.specs.Sound.{Holds, Agree, no-function, function-at, Enters, Goes-on, Command-sound, made-kind, Tail-sound, Body-sound, steps-in, input-kinds, Sound}
-use Rattle.program.proofs.Entries.{both}
 use Rattle.program.proofs.Kept.{kept}
 use Rattle.program.proofs.Viewed.{command-said, tail-said, body-said, function-said, view-said, lines-same, kind-told, kind-back, kinds-back}
 
@@ -85,14 +84,14 @@ agree ks [] [] e = tt
 agree ks [] (x ∷ ps) e = let z : _≡_ {A = ℕ} 0 1 = cc in omega arith
 agree ks (a ∷ args) [] e = let z : _≡_ {A = ℕ} 0 1 = cc in omega arith
 agree ks (a ∷ args) (x ∷ ps) e =
-    let h = both (same-kind (kind-in ks (Some a)) (kind-of (kind-number x))) (takes ks (wholes args) (map kind-number ps)) e in
+    let h = and-parts (same-kind (kind-in ks (Some a)) (kind-of (kind-number x))) (takes ks (wholes args) (map kind-number ps)) e in
     (held-in ks a x (same-said (kind-in ks (Some a)) x (h .0)), agree ks args ps (h .1))
 
 led : (lead ps : List Kind) → starts lead (map kind-number ps) ≡ true → ps ≡ lead ++ drop (length lead) ps
 led [] ps e = refl
 led (x ∷ lead) [] e = absurd (let z : _≡_ {A = ℕ} 0 1 = cc in omega arith)
 led (x ∷ lead) (y ∷ ps) e =
-    let h = both (same-kind (Some x) (kind-of (kind-number y))) (starts lead (map kind-number ps)) e in
+    let h = and-parts (same-kind (Some x) (kind-of (kind-number y))) (starts lead (map kind-number ps)) e in
     let q = same-said (Some x) y (h .0) in
     let r : y ≡ x = cc in
     ap (λ z. z ∷ ps) r ∙ ap (λ zs. x ∷ zs) (led lead ps (h .1))
@@ -161,7 +160,7 @@ module _ (v : View) where
   accepted f lead ks args t e =
       let l = is-there f t in
       let ps = function-at v f .params in
-      let h = both (starts lead (map kind-number ps)) (takes ks (wholes args) (drop (length lead) (map kind-number ps))) (subst (λ hs. accepts hs lead ks (wholes args) ≡ true) (head-is f l) e) in
+      let h = and-parts (starts lead (map kind-number ps)) (takes ks (wholes args) (drop (length lead) (map kind-number ps))) (subst (λ hs. accepts hs lead ks (wholes args) ≡ true) (head-is f l) e) in
       record {
         there = l;
         rest = drop (length lead) ps;
@@ -171,7 +170,7 @@ module _ (v : View) where
 
   goes-on : (f : ℕ) (r : Kind) (lead ks : List Kind) (args : List ℕ) → ltb f (length heads) ≡ true → entered (getD heads f []) r lead ks (wholes args) ≡ true → Goes-on v r lead ks f args
   goes-on f r lead ks args t e =
-      let h = both (same-kind (Some r) (kind-of (getD (getD heads f []) 0 (pos 0)))) (accepts (getD heads f []) lead ks (wholes args)) e in
+      let h = and-parts (same-kind (Some r) (kind-of (getD (getD heads f []) 0 (pos 0)))) (accepts (getD heads f []) lead ks (wholes args)) e in
       let x = function-at v f .result in
       let q : Some r ≡ Some x = same-said (Some r) x (subst (λ hs. same-kind (Some r) (kind-of (getD hs 0 (pos 0))) ≡ true) (head-is f (is-there f t)) (h .0)) in
       (accepted f lead ks args t (h .1), cc)
@@ -190,7 +189,7 @@ module _ (v : View) where
       let zs = pos a ∷ pos b ∷ [] in
       let h = and-parts (is-kind ks zs 0 k.Number) (is-kind ks zs 1 k.Number) (sym (op-checked op ks r zs .0) ∙ e) in
       (holds ks a k.Number (h .0), holds ks b k.Number (h .1))
-  command-sound ks r (NEW f args) t e = accepted f [] ks args (both (ltb f (length heads)) (all-there (length ks) (length heads) w.New 1 (wholes args)) t .0) e
+  command-sound ks r (NEW f args) t e = accepted f [] ks args (and-parts (ltb f (length heads)) (all-there (length ks) (length heads) w.New 1 (wholes args)) t .0) e
 
   known-made : (ks : List Kind) (r : Kind) (c : Command-view) → Command-sound v ks c → known-after heads (ks, r) (command-said c) ≡ (ks ++ made-kind v c ∷ [], r)
   known-made ks r (LIT z) s = refl
@@ -212,17 +211,17 @@ module _ (v : View) where
   tail-sound ks r (GET s f args) t e =
       let n = length heads in
       let h = and-parts (is-kind ks (pos s ∷ []) 0 k.ModNumber) (entered (getD heads f []) r (k.Number ∷ []) ks (wholes args)) e in
-      let a = both (ltb s (length ks)) (all-there (length ks) n w.Get 1 (pos f ∷ wholes args)) t in
-      let b = both (ltb f n) (all-there (length ks) n w.Get 2 (wholes args)) (a .1) in
+      let a = and-parts (ltb s (length ks)) (all-there (length ks) n w.Get 1 (pos f ∷ wholes args)) t in
+      let b = and-parts (ltb f n) (all-there (length ks) n w.Get 2 (wholes args)) (a .1) in
       (holds ks s k.ModNumber (h .0), goes-on f r (k.Number ∷ []) ks args (b .0) (h .1))
   tail-sound ks r (CAS s f g args) t e =
       let n = length heads in
       let lead = k.ModNumber ∷ k.ModList ∷ [] in
       let h = and-parts (is-kind ks (pos s ∷ []) 0 k.ModList) (entered (getD heads f []) r [] ks (wholes args) && entered (getD heads g []) r lead ks (wholes args)) e in
       let i = and-parts (entered (getD heads f []) r [] ks (wholes args)) (entered (getD heads g []) r lead ks (wholes args)) (h .1) in
-      let a = both (ltb s (length ks)) (all-there (length ks) n w.Cas 1 (pos f ∷ pos g ∷ wholes args)) t in
-      let b = both (ltb f n) (all-there (length ks) n w.Cas 2 (pos g ∷ wholes args)) (a .1) in
-      let d = both (ltb g n) (all-there (length ks) n w.Cas 3 (wholes args)) (b .1) in
+      let a = and-parts (ltb s (length ks)) (all-there (length ks) n w.Cas 1 (pos f ∷ pos g ∷ wholes args)) t in
+      let b = and-parts (ltb f n) (all-there (length ks) n w.Cas 2 (pos g ∷ wholes args)) (a .1) in
+      let d = and-parts (ltb g n) (all-there (length ks) n w.Cas 3 (wholes args)) (b .1) in
       (holds ks s k.ModList (h .0), goes-on f r [] ks args (b .0) (i .0), goes-on g r lead ks args (d .0) (i .1))
 
   body-sound : (r : Kind) (ks : List Kind) (n : ℕ) (cs : List Command-view) (t : Tail-view) (ls : List Said) → Keeps (ks, r) n (body-said cs t ++ ls) → Body-sound v r ks cs t × On ls
@@ -276,7 +275,7 @@ body-fits s n [] t ls l e =
     (omega arith, omega arith, record { s = behind-part s p.Tail (length (tail-said t .1)); n = n + 1; of-functions = refl; of-steps = omega arith; stands = h .3 })
 body-fits s n (c ∷ cs) t ls l e =
     let h = shape s n (command-said c .0) (command-said c .1) (body-said cs t ++ ls) p.Command (command-stands c .0) e in
-    let r = both (ltb (s .steps) 512) (ltb (s .registers) 16) (h .2) in
+    let r = and-parts (ltb (s .steps) 512) (ltb (s .registers) 16) (h .2) in
     let b = ltb-true (s .registers) 16 (r .1) in
     let u = body-fits (behind-part s p.Command (length (command-said c .1))) (n + 1) cs t ls (omega arith) (h .3) in
     let g = u .2 in
@@ -295,9 +294,9 @@ function-fits : (s : Standing) (n : ℕ) (f : Function-view) (ls : List Said) �
 function-fits s n f ls e =
     let zs = head-numbers f in
     let h = shape s n w.Fun zs (body-said (f .commands) (f .tail) ++ ls) p.Head refl e in
-    let r = both (ltb (s .functions) 64) (cond (result-kind (kind-of (kind-number (f .result)))) (all-kinds (map kind-number (f .params))) false) (h .2) in
-    let q = both (result-kind (kind-of (kind-number (f .result)))) (all-kinds (map kind-number (f .params))) (r .1) in
-    let c = leb-true (length zs) 7 (both (leb 1 (length zs)) (leb (length zs) 7) (h .1) .1) in
+    let r = and-parts (ltb (s .functions) 64) (result-kind (kind-of (kind-number (f .result))) && all-kinds (map kind-number (f .params))) (h .2) in
+    let q = and-parts (result-kind (kind-of (kind-number (f .result)))) (all-kinds (map kind-number (f .params))) (r .1) in
+    let c = leb-true (length zs) 7 (and-parts (leb 1 (length zs)) (leb (length zs) 7) (h .1) .1) in
     let m = length-map (f .params) kind-number in
     let s′ = behind-part s p.Head (length zs) in
     let u = body-fits s′ (n + 1) (f .commands) (f .tail) ls (omega arith) (h .3) in
@@ -331,9 +330,9 @@ sound-view v e =
     let r = shape s₁ (1 + 1) w.Run (wholes (v .run)) fs p.Run refl (i .3) in
     let some = some-behind (v .functions) (r .0) in
     let n = v .numbers + v .lists in
-    let b = both (leb (v .numbers) 256) (cond (leb (v .lists) 256) (cond (leb 1 n) (leb n 256) false) false) (i .2) in
-    let c = both (leb (v .lists) 256) (cond (leb 1 n) (leb n 256) false) (b .1) in
-    let m = both (leb 1 n) (leb n 256) (c .1) in
+    let b = and-parts (leb (v .numbers) 256) (leb (v .lists) 256 && (leb 1 n && leb n 256)) (i .2) in
+    let c = and-parts (leb (v .lists) 256) (leb 1 n && leb n 256) (b .1) in
+    let m = and-parts (leb 1 n) (leb n 256) (c .1) in
     let u = functions-fit (behind-part s₁ p.Run (length (wholes (v .run)))) (1 + 1 + 1) (v .functions) (omega arith) (omega arith) (r .3) in
     let kept-kinds : Keeps v unknown 1 ls = subst (λ hs. first (known-after hs) (kind-rules hs) unknown 1 ls ≡ None) (heads-functions (v .functions)) (a .1) in
     let j = line v [] k.Number 1 w.Inp zs ((w.Run, wholes (v .run)) ∷ fs) kept-kinds in

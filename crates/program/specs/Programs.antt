@@ -1,6 +1,6 @@
 -- The lines of a program.
 use mathlib.Core.Path.{_≡_}
-use mathlib.Core.Bool.{Bool, true, false, cond}
+use mathlib.Core.Bool.{Bool, true, false, cond, _&&_}
 use mathlib.Core.List.{List, [], _∷_, _++_, map}
 use Prim.Native.Nat.{ℕ}
 use lib.IntN.{ℤ, pos}
@@ -69,4 +69,4 @@ lines-fault ls = over-shape (shape-fault-of ls) (kind-fault-of ls)
 
 -- a program's lines have no fault, and their numbers fit their columns
 unfoldable pub keeps-rules : ℕ → ℕ → List ℕ → List Function → Bool
-keeps-rules a b run fs = cond (no-fault (lines-fault (lines-with a b run fs))) (all-fit (lines-with a b run fs)) false
+keeps-rules a b run fs = no-fault (lines-fault (lines-with a b run fs)) && all-fit (lines-with a b run fs)

@@ -1,6 +1,6 @@
 -- The parts of a text: what may stand where, how many fields a line has, and which numbers.
 use mathlib.Core.Path.{_≡_}
-use mathlib.Core.Bool.{Bool, true, false, cond}
+use mathlib.Core.Bool.{Bool, true, false, cond, _&&_}
 use mathlib.Core.List.{List, [], _∷_}
 use Prim.Native.Nat.{ℕ, _+_}
 use lib.Dec.{leb}
@@ -69,7 +69,7 @@ fits d.Body p.Tail = true
 
 -- in its place, and a tail where it is the text's last line
 abbrev pub placed : Due → Part → Bool → Bool
-placed due part last = cond (fits due part) (cond last (is-tail part) true) false
+placed due part last = fits due part && cond last (is-tail part) true
 
 -- the fewest and the most fields of a line
 abbrev pub fewest : Word → ℕ
@@ -109,7 +109,7 @@ most w.Get = 7
 most w.Cas = 7
 
 abbrev pub counted : Word → ℕ → Bool
-counted k n = cond (leb (fewest k) n) (leb n (most k)) false
+counted k n = leb (fewest k) n && leb n (most k)
 
 -- a kind of modifiable
 abbrev pub result-kind : Option Kind → Bool
@@ -120,13 +120,13 @@ result-kind (Some k.ModList) = true
 
 abbrev pub all-kinds : List ℤ → Bool
 all-kinds [] = true
-all-kinds (z ∷ zs) = cond (isSome (kind-of z)) (all-kinds zs) false
+all-kinds (z ∷ zs) = isSome (kind-of z) && all-kinds zs
 
 abbrev pub head-stands : List ℤ → Bool
-head-stands zs = cond (result-kind (kind-of (getD zs 0 (pos 0)))) (all-kinds (drop 1 zs)) false
+head-stands zs = result-kind (kind-of (getD zs 0 (pos 0))) && all-kinds (drop 1 zs)
 
 -- the two numbers of INP
 abbrev pub inputs-fit : Option ℕ → Option ℕ → Bool
 inputs-fit None o = false
 inputs-fit (Some a) None = false
-inputs-fit (Some a) (Some b) = cond (leb a 256) (cond (leb b 256) (cond (leb 1 (a + b)) (leb (a + b) 256) false) false) false
+inputs-fit (Some a) (Some b) = leb a 256 && (leb b 256 && (leb 1 (a + b) && leb (a + b) 256))

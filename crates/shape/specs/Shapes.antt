@@ -1,6 +1,6 @@
 -- The rules of layer 2: where a line stands, how many fields it has, and its ranges and limits.
 use mathlib.Core.Path.{_≡_}
-use mathlib.Core.Bool.{Bool, true, false, cond}
+use mathlib.Core.Bool.{Bool, true, false, cond, _&&_}
 use mathlib.Core.List.{List, [], _∷_}
 use Prim.Native.Nat.{ℕ, _+_, _-_}
 use lib.Dec.{ltb}
@@ -24,8 +24,8 @@ use Rattle.shape.specs.Parts.{part-of, placed, counted, head-stands, inputs-fi
 abbrev pub ranged : Standing → Part → List ℤ → Bool
 ranged s p.Inputs zs = inputs-fit (whole-of (getD zs 0 (pos 0))) (whole-of (getD zs 1 (pos 0)))
 ranged s p.Run zs = true
-ranged s p.Head zs = cond (ltb (s .functions) 64) (head-stands zs) false
-ranged s p.Command zs = cond (ltb (s .steps) 512) (ltb (s .registers) 16) false
+ranged s p.Head zs = ltb (s .functions) 64 && head-stands zs
+ranged s p.Command zs = ltb (s .steps) 512 && ltb (s .registers) 16
 ranged s p.Tail zs = ltb (s .steps) 512
 
 abbrev pub behind-part : Standing → Part → ℕ → Standing

@@ -1,6 +1,6 @@
 -- How the reader cuts a text into its lines.
 use mathlib.Core.Path.{_≡_, refl, ap, sym, _∙_}
-use mathlib.Core.Bool.{Bool, true, false, cond}
+use mathlib.Core.Bool.{Bool, true, false, cond, _&&_}
 use mathlib.Core.List.{List, [], _∷_, map}
 use mathlib.Core.Logic.{⊎-elim}
 use Prim.Native.Nat.{ℕ, zero, suc, _+_, _-_, _%_, _≤_, _<_}
@@ -18,7 +18,7 @@ use Rattle.text.specs.declared.line.Word.{Word}
 use Rattle.text.specs.declared.line.LineFault.{LineFault}
 use Rattle.text.specs.declared.line.LineFault.the-variants as f
 use Rattle.text.specs.First.{or-else, no-fault, none-left}
-use Rattle.text.specs.Lines.{Said, Told, line-end, line-of, Raw, longer, lines-in, line-fault, line-rules, fault-in, standing, lines-of, reading, worded, word-of, or-nil, text-fault}
+use Rattle.text.specs.Lines.{Said, Told, line-end, right-length, line-of, Raw, longer, lines-in, line-fault, line-rules, fault-in, standing, lines-of, reading, worded, word-of, or-nil, text-fault}
 use Rattle.text.specs.Numbers.{fields-stand, numbers-in}
 use Rattle.text.specs.Reader.{Reads, Falls}
 use Rattle.text.proofs.Passes.{or-none}
@@ -124,10 +124,7 @@ worded-said n (Some k) fs x p =
 -- a line that stands is told as it reads
 pub line-said : (n : ℕ) (l : List ℕ) (x : Told) → line-of n l ≡ Ok x → x ≡ (n, reading (true, l))
 line-said n l x p =
-    let a = ok-cond (leb 3 (length l)) _ (f.Length n) x p in
-    let b = ok-cond (eqb ((length l - 3) % 6) 0) _ (f.Length n) x a in
-    let c = ok-cond (leb (length l - 3) 54) _ (f.Length n) x b in
-    worded-said n (word-of (getD l 0 0) (getD l 1 0) (getD l 2 0)) (drop 3 l) x c
+    worded-said n (word-of (getD l 0 0) (getD l 1 0) (getD l 2 0)) (drop 3 l) x (ok-cond (right-length (length l)) _ (f.Length n) x p)
 
 -- the lines that are left begin with the one that was read
 pub lines-left : (n m : ℕ) (bs : List ℕ) (x : Said) (behind : List ℕ) → Reads n bs (m, x) behind → (standing n (lines-in bs) ≡ x ∷ standing (n + 1) (lines-in behind)) × (m ≡ n)
@@ -135,10 +132,9 @@ lines-left n m bs x behind r =
     let e = line-said n (r .line) (m, x) (r .stands) in
     (ap (standing n) (r .lines) ∙ ap (λ t. cond (no-fault (fault-in t)) (reading (true, r .line) ∷ standing (n + 1) (lines-in behind)) []) (r .stands) ∙ ap (λ (y : Told). y .1 ∷ standing (n + 1) (lines-in behind)) (sym e), ap (λ (y : Told). y .0) e)
 
-by-length : (a b : Bool) (o : Option LineFault) → cond a (cond b o (Some (f.Length 0))) (Some (f.Length 0)) ≡ None → o ≡ None
-by-length true true o e = e
-by-length true false o e = absurd (let z : _≡_ {A = ℕ} 0 1 = cc in omega arith)
-by-length false b o e = absurd (let z : _≡_ {A = ℕ} 0 1 = cc in omega arith)
+by-length : (b : Bool) (o : Option LineFault) → cond b o (Some (f.Length 0)) ≡ None → o ≡ None
+by-length true o e = e
+by-length false o e = absurd (let z : _≡_ {A = ℕ} 0 1 = cc in omega arith)
 
 -- in a text without a fault of this layer all lines stand
 pub all-standing : (n : ℕ) (ls : List Raw) → line-fault n ls ≡ None → standing n ls ≡ map reading ls
@@ -149,7 +145,7 @@ all-standing n ((true, l) ∷ ls) e =
 all-standing n ((false, l) ∷ ls) e = absurd (let z : _≡_ {A = ℕ} 0 1 = cc in omega arith)
 
 pub lines-standing : (bs : List ℕ) → text-fault bs ≡ None → standing 1 (lines-in bs) ≡ lines-of bs
-lines-standing bs e = all-standing 1 (lines-in bs) (by-length (leb 1 (length bs)) (leb (length bs) 65536) (line-fault 1 (lines-in bs)) e)
+lines-standing bs e = all-standing 1 (lines-in bs) (by-length (leb 1 (length bs) && leb (length bs) 65536) (line-fault 1 (lines-in bs)) e)
 
 pub in-length : (bs : List ℕ) → 1 ≤ length bs → length bs ≤ 65536 → text-fault bs ≡ line-fault 1 (lines-in bs)
-in-length bs a b = ap (λ t. cond t (cond (leb (length bs) 65536) (line-fault 1 (lines-in bs)) (Some (f.Length 0))) (Some (f.Length 0))) (le-leb 1 (length bs) a) ∙ ap (λ t. cond t (line-fault 1 (lines-in bs)) (Some (f.Length 0))) (le-leb (length bs) 65536 b)
+in-length bs a b = ap (λ t. cond (t && leb (length bs) 65536) (line-fault 1 (lines-in bs)) (Some (f.Length 0))) (le-leb 1 (length bs) a) ∙ ap (λ t. cond t (line-fault 1 (lines-in bs)) (Some (f.Length 0))) (le-leb (length bs) 65536 b)

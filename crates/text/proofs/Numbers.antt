@@ -1,6 +1,6 @@
 -- The numbers of a line's fields, by place.
 use mathlib.Core.Path.{_≡_, refl, ap, sym, _∙_}
-use mathlib.Core.Bool.{Bool, true, false, cond}
+use mathlib.Core.Bool.{Bool, true, false, cond, _&&_}
 use mathlib.Core.List.{List, [], _∷_}
 use Prim.Native.Nat.{ℕ, zero, suc, _+_, _-_, _*_, _/_, _≤_, _<_}
 use native.Mathlib.Omega.{arith}
@@ -44,9 +44,9 @@ numbers-drop (suc k) bs l =
 pub stand-more : (xs ys : List ℕ) → ys ≡ drop 6 xs → 6 ≤ length xs → isSome (field-value (take 6 xs)) ≡ true → fields-stand (length xs / 6) xs ≡ fields-stand (length ys / 6) ys
 stand-more xs ys is l t =
     let e : length xs / 6 ≡ suc (length (drop 6 xs) / 6) = omega (arith, length-drop 6 xs) in
-    ap (λ k. fields-stand k xs) e ∙ ap (λ b. cond b (fields-stand (length (drop 6 xs) / 6) (drop 6 xs)) false) t ∙ ap (λ (zs : List ℕ). fields-stand (length zs / 6) zs) (sym is)
+    ap (λ k. fields-stand k xs) e ∙ ap (λ b. b && fields-stand (length (drop 6 xs) / 6) (drop 6 xs)) t ∙ ap (λ (zs : List ℕ). fields-stand (length zs / 6) zs) (sym is)
 
 pub stand-fails : (xs : List ℕ) → 6 ≤ length xs → isSome (field-value (take 6 xs)) ≡ false → fields-stand (length xs / 6) xs ≡ false
 stand-fails xs l t =
     let e : length xs / 6 ≡ suc (length (drop 6 xs) / 6) = omega (arith, length-drop 6 xs) in
-    ap (λ k. fields-stand k xs) e ∙ ap (λ b. cond b (fields-stand (length (drop 6 xs) / 6) (drop 6 xs)) false) t
+    ap (λ k. fields-stand k xs) e ∙ ap (λ b. b && fields-stand (length (drop 6 xs) / 6) (drop 6 xs)) t

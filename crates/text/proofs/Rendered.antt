@@ -1,6 +1,6 @@
 -- A text and its lines: a text that stands is the rendering of its lines, and lines that fit are those of their rendering.
 use mathlib.Core.Path.{_≡_, refl, ap, sym, _∙_}
-use mathlib.Core.Bool.{Bool, true, false, cond}
+use mathlib.Core.Bool.{Bool, true, false, cond, _&&_}
 use mathlib.Core.List.{List, [], _∷_, _++_, map, append-assoc}
 use mathlib.Core.Logic.{⊎-elim}
 use Prim.Native.Nat.{ℕ, zero, suc, _+_, _-_, _*_, _/_, _%_, _<_}
@@ -15,7 +15,7 @@ use Rattle.std.specs.declared.option.Option.{Option}
 use Rattle.std.specs.declared.option.Option.the-variants.{Some, None}
 use Rattle.std.specs.declared.result.Result.{Result}
 use Rattle.std.specs.declared.result.Result.the-variants.{Ok, Err}
-use Rattle.std.proofs.shelf.Tests.{cases-bool, eqb-true, ne-eqb}
+use Rattle.std.proofs.shelf.Tests.{and-parts, cases-bool, eqb-true, ne-eqb}
 use Rattle.std.proofs.shelf.Ways.{eqb-tells}
 use Rattle.std.proofs.shelf.Lists.{take-append-drop, take-at, drop-at, nil-from-length}
 use Rattle.std.proofs.shelf.Elements.{all-append}
@@ -26,13 +26,9 @@ use Rattle.text.specs.declared.line.LineFault.the-variants as f
 use Rattle.text.specs.Field.{field-value}
 use Rattle.text.specs.First.{or-else}
 use Rattle.text.specs.Numbers.{fields-stand, numbers, numbers-in}
-use Rattle.text.specs.Lines.{spelled, word-of, Told, worded, line-of, Raw, longer, lines-in, fault-in, line-fault, text-fault, or-nil, Said, reading, lines-of}
+use Rattle.text.specs.Lines.{spelled, word-of, Told, worded, right-length, line-of, Raw, longer, lines-in, fault-in, line-fault, text-fault, or-nil, Said, reading, lines-of}
 use Rattle.text.specs.Rendering.{columns, fits, spelling, line-bytes, rendered, each-fits, fitting, all-fit}
 use Rattle.text.proofs.Columns.{columns-of, columns-back, length-columns, columns-over}
-
-both-true : (t u : Bool) → cond t u false ≡ true → (t ≡ true) × (u ≡ true)
-both-true true u e = (refl, e)
-both-true false u e = absurd (let z : _≡_ {A = ℕ} 0 1 = cc in omega arith)
 
 -- words
 
@@ -73,8 +69,8 @@ word-back k = by-computing k .back
 
 same-letters : (a b c x y z : ℕ) → spelled a b c x y z ≡ true → a ∷ b ∷ c ∷ [] ≡ x ∷ y ∷ z ∷ []
 same-letters a b c x y z e =
-    let p = both-true (eqb a x) (cond (eqb b y) (eqb c z) false) e in
-    let q = both-true (eqb b y) (eqb c z) (p .1) in
+    let p = and-parts (eqb a x) (eqb b y && eqb c z) e in
+    let q = and-parts (eqb b y) (eqb c z) (p .1) in
     λ i. eqb-true a x (p .0) i ∷ eqb-true b y (q .0) i ∷ eqb-true c z (q .1) i ∷ []
 
 among-spelled : (ks : List Word) (a b c : ℕ) (k : Word) → among ks a b c ≡ Some k → a ∷ b ∷ c ∷ [] ≡ spelling k
@@ -97,15 +93,15 @@ held (Some x) d e = refl
 fields-in : (m : ℕ) (fs : List ℕ) → length fs ≡ 6 * m → fields-stand m fs ≡ true → (joined columns (numbers m fs) ≡ fs) × (each-fits (numbers m fs) ≡ true)
 fields-in zero fs l e = (sym (nil-from-length fs (omega arith)), refl)
 fields-in (suc m) fs l e =
-    let b = both-true (isSome (field-value (take 6 fs))) (fields-stand m (drop 6 fs)) e in
+    let b = and-parts (isSome (field-value (take 6 fs))) (fields-stand m (drop 6 fs)) e in
     let c = columns-of (take 6 fs) (valueOr (field-value (take 6 fs)) (pos 0)) (held (field-value (take 6 fs)) (pos 0) (b .0)) in
     let r = fields-in m (drop 6 fs) (simp length-drop (omega arith)) (b .1) in
-    ((λ i. sym (c .0) i ++ r .0 i) ∙ take-append-drop 6 fs, ap (λ t. cond t (each-fits (numbers m (drop 6 fs))) false) (c .1) ∙ r .1)
+    ((λ i. sym (c .0) i ++ r .0 i) ∙ take-append-drop 6 fs, ap (λ t. t && each-fits (numbers m (drop 6 fs))) (c .1) ∙ r .1)
 
 fields-back : (zs : List ℤ) → each-fits zs ≡ true → (numbers-in (joined columns zs) ≡ zs) × All (λ b. 10 < b) (joined columns zs)
 fields-back [] e = (refl, tt)
 fields-back (z ∷ zs) e =
-    let b = both-true (fits z) (each-fits zs) e in
+    let b = and-parts (fits z) (each-fits zs) e in
     let r = fields-back zs (b .1) in
     let s = length-columns z (b .0) in
     let fs : List ℕ = joined columns zs in
@@ -133,10 +129,9 @@ line-in n (a ∷ []) e = absurd (let z : _≡_ {A = ℕ} 0 1 = cc in omega arith
 line-in n (a ∷ b ∷ []) e = absurd (let z : _≡_ {A = ℕ} 0 1 = cc in omega arith)
 line-in n (a ∷ b ∷ c ∷ fs) e =
     let m : ℕ = length (a ∷ b ∷ c ∷ fs) in
-    let p = sound (leb 3 m) _ (f.Length n) e in
-    let q = sound (eqb ((m - 3) % 6) 0) _ (f.Length n) (p .1) in
-    let r = sound (leb (m - 3) 54) (worded n (word-of a b c) fs) (f.Length n) (q .1) in
-    worded-in n a b c (word-of a b c) fs refl (omega (arith, eqb-true ((m - 3) % 6) 0 (q .0))) (r .1)
+    let p = sound (right-length m) (worded n (word-of a b c) fs) (f.Length n) e in
+    let q = and-parts (eqb ((m - 3) % 6) 0) (leb (m - 3) 54) (and-parts (leb 3 m) _ (p .0) .1) in
+    worded-in n a b c (word-of a b c) fs refl (omega (arith, eqb-true ((m - 3) % 6) 0 (q .0))) (p .1)
 
 cut-line : (l bs : List ℕ) → All (λ b. 10 < b) l → lines-in (l ++ 10 ∷ bs) ≡ (true, l) ∷ lines-in bs
 cut-line [] bs h = refl
@@ -180,7 +175,7 @@ lines-rendered n ((true, l) ∷ ls) e =
     let b = neither (fault-in (line-of n l)) (line-fault (n + 1) ls) e in
     let p = line-in n l (b .0) in
     let r = lines-rendered (n + 1) ls (b .1) in
-    ((λ i. p .0 i ++ r .0 i), ap (λ t. cond t (all-fit (map reading ls)) false) (p .1) ∙ r .1)
+    ((λ i. p .0 i ++ r .0 i), ap (λ t. t && all-fit (map reading ls)) (p .1) ∙ r .1)
 lines-rendered n ((false, l) ∷ ls) e = absurd (let z : _≡_ {A = ℕ} 0 1 = cc in omega arith)
 
 none-cond : {F : Type 0} (t : Bool) (o : Option F) (y : F) → cond t o (Some y) ≡ None → o ≡ None
@@ -189,13 +184,13 @@ none-cond false o y e = absurd (let z : _≡_ {A = ℕ} 0 1 = cc in omega arith)
 
 pub rendering-of : (bs : List ℕ) → text-fault bs ≡ None → (rendered (lines-of bs) ≡ bs) × (all-fit (lines-of bs) ≡ true)
 rendering-of bs e =
-    let r = lines-rendered 1 (lines-in bs) (none-cond (leb (length bs) 65536) _ (f.Length 0) (none-cond (leb 1 (length bs)) _ (f.Length 0) e)) in
+    let r = lines-rendered 1 (lines-in bs) (none-cond (leb 1 (length bs) && leb (length bs) 65536) _ (f.Length 0) e) in
     (r .0 ∙ whole bs, r .1)
 
 pub lines-back : (ls : List Said) → all-fit ls ≡ true → lines-of (rendered ls) ≡ ls
 lines-back [] e = refl
 lines-back ((k, zs) ∷ ls) e =
-    let b = both-true (each-fits zs) (all-fit ls) e in
+    let b = and-parts (each-fits zs) (all-fit ls) e in
     line-back k zs (rendered ls) (b .0) ∙ ap (λ x. (k, zs) ∷ x) (lines-back ls (b .1))
 
 -- two lists of lines that fit are rendered alike only where they are the same

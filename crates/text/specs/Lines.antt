@@ -1,6 +1,6 @@
 -- A line of a text: a word of three capital letters, up to nine fields of six columns, byte 10.
 use mathlib.Core.Path.{_≡_}
-use mathlib.Core.Bool.{Bool, true, false, cond}
+use mathlib.Core.Bool.{Bool, true, false, cond, _&&_}
 use mathlib.Core.List.{List, [], _∷_, map}
 use Prim.Native.Nat.{ℕ, zero, suc, _+_, _-_, _%_, _/_}
 use lib.Dec.{eqb, leb}
@@ -18,7 +18,7 @@ use Rattle.text.specs.First.{first, no-fault}
 use Rattle.text.specs.Numbers.{fields-stand, numbers-in}
 
 abbrev pub spelled : ℕ → ℕ → ℕ → ℕ → ℕ → ℕ → Bool
-spelled a b c x y z = cond (eqb a x) (cond (eqb b y) (eqb c z) false) false
+spelled a b c x y z = eqb a x && (eqb b y && eqb c z)
 
 abbrev pub word-of : ℕ → ℕ → ℕ → Option Word
 word-of a b c =
@@ -54,9 +54,13 @@ abbrev pub worded : ℕ → Option Word → List ℕ → Result Told LineFault
 worded n None fs = Err (f.Word n)
 worded n (Some k) fs = fielded n k fs
 
+-- three letters and up to nine fields of six columns
+abbrev pub right-length : ℕ → Bool
+right-length m = leb 3 m && (eqb ((m - 3) % 6) 0 && leb (m - 3) 54)
+
 -- line n, without its byte 10
 abbrev pub line-of : ℕ → List ℕ → Result Told LineFault
-line-of n bs = cond (leb 3 (length bs)) (cond (eqb ((length bs - 3) % 6) 0) (cond (leb (length bs - 3) 54) (worded n (word-of (getD bs 0 0) (getD bs 1 0) (getD bs 2 0)) (drop 3 bs)) (Err (f.Length n))) (Err (f.Length n))) (Err (f.Length n))
+line-of n bs = cond (right-length (length bs)) (worded n (word-of (getD bs 0 0) (getD bs 1 0) (getD bs 2 0)) (drop 3 bs)) (Err (f.Length n))
 
 -- a line as it stands in the text: whether a byte 10 ends it, and the bytes before that
 abbrev pub Raw : Type 0
@@ -89,7 +93,7 @@ line-fault n ls = first same line-rules tt n ls
 
 -- the fault of layer 1 that is told of a text
 abbrev pub text-fault : List ℕ → Option LineFault
-text-fault bs = cond (leb 1 (length bs)) (cond (leb (length bs) 65536) (line-fault 1 (lines-in bs)) (Some (f.Length 0))) (Some (f.Length 0))
+text-fault bs = cond (leb 1 (length bs) && leb (length bs) 65536) (line-fault 1 (lines-in bs)) (Some (f.Length 0))
 
 abbrev pub or-nil : Option Word → Word
 or-nil None = w.Nil

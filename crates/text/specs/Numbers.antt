@@ -1,6 +1,6 @@
 -- The numbers in a line's fields.
 use mathlib.Core.Path.{_≡_}
-use mathlib.Core.Bool.{Bool, true, false, cond}
+use mathlib.Core.Bool.{Bool, true, false, cond, _&&_}
 use mathlib.Core.List.{List, [], _∷_}
 use Prim.Native.Nat.{ℕ, zero, suc, _/_}
 use lib.Dec.{eqb}
@@ -16,7 +16,7 @@ use Rattle.text.specs.Field.{field-value}
 -- each of the first k fields is a number
 abbrev pub fields-stand : ℕ → List ℕ → Bool
 fields-stand zero bs = true
-fields-stand (suc k) bs = cond (isSome (field-value (take 6 bs))) (fields-stand k (drop 6 bs)) false
+fields-stand (suc k) bs = isSome (field-value (take 6 bs)) && fields-stand k (drop 6 bs)
 
 -- the numbers in k fields; a field that holds none counts as 0, but then a rule of this layer is broken
 abbrev pub numbers : ℕ → List ℕ → List ℤ

@@ -1,5 +1,5 @@
 -- The text of lines, as it is rendered.
-use mathlib.Core.Bool.{Bool, true, false, cond}
+use mathlib.Core.Bool.{Bool, true, false, cond, _&&_}
 use mathlib.Core.List.{List, [], _∷_, _++_}
 use Prim.Native.Nat.{ℕ, _-_}
 use lib.Dec.{leb}
@@ -49,7 +49,7 @@ rendered ls = joined line-bytes ls
 -- whether every one of the numbers fits its columns
 abbrev pub each-fits : List ℤ → Bool
 each-fits [] = true
-each-fits (z ∷ zs) = cond (fits z) (each-fits zs) false
+each-fits (z ∷ zs) = fits z && each-fits zs
 
 -- whether every number of a line fits its columns
 abbrev pub fitting : Said → Bool
@@ -58,4 +58,4 @@ fitting (k, zs) = each-fits zs
 -- whether every number of every line fits its columns
 abbrev pub all-fit : List Said → Bool
 all-fit [] = true
-all-fit (l ∷ ls) = cond (fitting l) (all-fit ls) false
+all-fit (l ∷ ls) = fitting l && all-fit ls
