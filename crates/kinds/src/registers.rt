@@ -5,7 +5,7 @@ ghost use lib.ListN.{replicate};
 ghost use Rattle.std.specs.Of.Vec.{vec-items};
 ghost use Rattle.std.specs.Vec.{made};
 ghost use Rattle.text.specs.Values.{values};
-ghost use Rattle.kinds.specs.Kinds.{known-after, kinds-in, kind-rules, unknown};
+ghost use Rattle.kinds.specs.Kinds.{known-after, kinds-in, kind-rules, or-number, unknown};
 ghost use Rattle.kinds.specs.Held.{heads-held, known};
 use crate::fault::KindFault;
 use crate::rules::agreeing;
@@ -101,6 +101,13 @@ impl Registers {
     }
 }
 
+// A field that names no kind breaks a rule of layer 2; what it stands for then does not matter.
+fn kind_or_number(kind: Option<Kind>) -> Kind
+    ensures { λ r. ⌜ r ≡ or-number kind ⌝ }
+{
+    kind.unwrap_or(Kind::Number)
+}
+
 fn repeated(mut kinds: Vec<Kind>, n: usize, kind: Kind) -> Result<Vec<Kind>, AllocError>
     ensures { λ r. ⌜ made r (λ v. vec-items v ≡ vec-items kinds ++ replicate n kind) ⌝ }
 {
@@ -116,7 +123,7 @@ pub fn kinds_of(heap: Global, fields: Fields<'_>) -> Result<Vec<Kind>, AllocErro
 {
     let mut kinds = Vec::new(heap);
     for j in 0..fields.count() {
-        kinds.push(fields.kind(j).unwrap_or(Kind::Number))?;
+        kinds.push(kind_or_number(fields.kind(j)))?;
     }
     Ok(kinds)
 }

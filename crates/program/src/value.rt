@@ -16,6 +16,14 @@ pub enum Content {
     Cell { head: Name, tail: Name },
 }
 
+// What an input is set to: the empty list, a number, or a cell of two inputs.
+#[derive(Clone, Copy, PartialEq, Eq, Debug)]
+pub enum InputContent {
+    Empty,
+    Number(i32),
+    Cell { head: u16, tail: u16 },
+}
+
 // What a register holds.
 #[derive(Clone, Copy, PartialEq, Eq, Debug)]
 pub enum Value {

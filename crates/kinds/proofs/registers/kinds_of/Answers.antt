@@ -16,8 +16,8 @@ loop-j-again c =
     let zs = values (c .args .fields) in
     let j = c .loop-j .j in
     let l : j < length zs = omega arith in
-    let x : c .unwrap-or .result ≡ or-number (kind-of (getD zs j (pos 0))) = c .unwrap-or .ensures ∙ ap or-number (c .kind .ensures) in
-    c .in-Continue-push .ensures tt .items ∙ ap (λ ks. ks ++ c .unwrap-or .result ∷ []) (c .loop-j .inv) ∙ ap (λ y. kinds-in (take j zs) ++ y ∷ []) x ∙ sym (map-more (λ z. or-number (kind-of z)) zs j (pos 0) l)
+    let x : c .kind-or-number .result ≡ or-number (kind-of (getD zs j (pos 0))) = c .kind-or-number .ensures ∙ ap or-number (c .kind .ensures) in
+    c .in-Continue-push .ensures tt .items ∙ ap (λ ks. ks ++ c .kind-or-number .result ∷ []) (c .loop-j .inv) ∙ ap (λ y. kinds-in (take j zs) ++ y ∷ []) x ∙ sym (map-more (λ z. or-number (kind-of z)) zs j (pos 0) l)
 
 pub returns : need.returns
 returns c = let zs = values (c .args .fields) in c .loop-j .inv ∙ ap kinds-in (take-all (c .loop-j .j) zs (omega arith))

@@ -11,19 +11,19 @@ use Rattle.program.proofs.program.Program.steps.Needs as need
 pub loop-function-holds : need.loop-function-holds
 loop-function-holds c = omega arith
 
-one-more : (c : need.After-len) → steps (drop (c .loop-function .function-index) (vec-items (c .args .self .now .functions))) ≡ c .len .result + 1 + steps (drop (c .loop-function .function-index + 1) (vec-items (c .args .self .now .functions)))
+one-more : (c : need.After-steps-of-steps) → steps (drop (c .loop-function .function-index) (vec-items (c .args .self .now .functions))) ≡ c .steps-of-steps .result + steps (drop (c .loop-function .function-index + 1) (vec-items (c .args .self .now .functions)))
 one-more c =
     let f = c .function-item .result in
     let fs = vec-items (c .args .self .now .functions) in
     let i = c .loop-function .function-index in
     let m = steps-more (c .as-slice-function-items .result .now) fs i f (c .as-slice-function-items .ensures .value) (c .loop-function-test .taken) (c .function-item .is) in
-    omega (arith, m, c .len .ensures, f .commands .ok .0)
+    omega (arith, m, c .steps-of-steps .ensures, f .commands .ok .0)
 
-pub add-steps-in-loop-function : need.add-steps-in-loop-function
-add-steps-in-loop-function c =
+pub add-steps : need.add-steps
+add-steps c =
     let p = c .args .self .now in
     let most = sound p .steps-fit in
-    let h : c .loop-function .steps + (c .len .result + 1) ≤ 512 = omega (arith, one-more c, c .loop-function .inv, most) in
+    let h : c .loop-function .steps + c .steps-of-steps .result ≤ 512 = omega (arith, one-more c, c .loop-function .inv, most) in
     search needs
 
 pub loop-function-again : need.loop-function-again
