@@ -1,0 +1,10 @@
+pub mod Steps
+pub mod Fitting
+pub mod Whole
+pub mod Exists
+pub mod Theorem
+pub mod Answered
+pub mod Ordered
+pub mod Grows
+pub mod Refuted
+pub mod Tried

@@ -1,0 +1,15 @@
+pub mod Renamed
+pub mod Known
+pub mod Places
+pub mod Plain
+pub mod Over
+pub mod Settled
+pub mod Listed
+pub mod Stamps
+pub mod Alike
+pub mod Counted
+pub mod By-value
+pub mod Read-out
+pub mod Computed
+pub mod Exists
+pub mod Tried

@@ -1,0 +1,9 @@
+pub mod Code
+pub mod Trace
+pub mod Run
+pub mod Listing
+pub mod Turns
+pub mod Over
+pub mod Laws
+pub mod Computed
+pub mod Tried
