@@ -1,0 +1,5 @@
+pub mod Sifting
+pub mod Fronts
+pub mod Listings
+pub mod Booked
+pub mod Staying

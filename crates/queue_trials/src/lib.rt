@@ -1,0 +1,7 @@
+// The queue tried: a thousand elements, bookings by their days, and reads over a lent list.
+#[cfg(test)]
+mod many;
+#[cfg(test)]
+mod reads;
+#[cfg(test)]
+mod tests;
