@@ -10,7 +10,7 @@ use queue::heap::take;
 pub const MANY: usize = 1000;
 
 /// A booking of this day, without content.
-pub fn of_day(day: u16) -> Booking {
+pub(crate) fn of_day(day: u16) -> Booking {
     Booking {
         day,
         input: 0,
@@ -24,7 +24,7 @@ fn mixed(i: usize) -> u16 {
 }
 
 /// Puts a booking of each day below a thousand into the queue, and answers how many it then has.
-pub fn fill(heap: &mut [Booking]) -> usize {
+pub(crate) fn fill(heap: &mut [Booking]) -> usize {
     let mut count = 0;
     for i in 0..MANY {
         if let Ok(more) = put(&BookingOrder, heap, count, of_day(mixed(i))) {
@@ -35,7 +35,7 @@ pub fn fill(heap: &mut [Booking]) -> usize {
 }
 
 /// Whether taking all answers the days in order.
-pub fn drains_in_order(heap: &mut [Booking], count: usize) -> bool {
+pub(crate) fn drains_in_order(heap: &mut [Booking], count: usize) -> bool {
     let mut right = true;
     for i in 0..count {
         match take(&BookingOrder, heap, count - i) {

@@ -16,7 +16,7 @@ use queue::stale::StaleOrder;
 use queue::stale::StaleRead;
 
 /// Queues a read: where all start stamps are members, the queue stays a heap.
-pub fn queue_read<O: OrderList>(
+pub(crate) fn queue_read<O: OrderList>(
     list: &O,
     places: &mut [StaleRead],
     count: usize,
@@ -30,7 +30,7 @@ pub fn queue_read<O: OrderList>(
 }
 
 /// Takes a read: where all start stamps are members, none stands earlier than its.
-pub fn earliest_read<O: OrderList>(
+pub(crate) fn earliest_read<O: OrderList>(
     list: &O,
     places: &mut [StaleRead],
     count: usize,
