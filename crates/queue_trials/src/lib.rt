@@ -1,7 +1,6 @@
 // The queue tried: a thousand elements, bookings by their days, and reads over a lent list.
 #[cfg(test)]
 mod many;
-#[cfg(test)]
-mod reads;
+pub mod reads;
 #[cfg(test)]
 mod tests;

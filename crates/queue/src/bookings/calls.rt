@@ -2,7 +2,7 @@
 ghost use mathlib.Core.Path.{_≡_};
 ghost use mathlib.Core.Bool.{true, false};
 ghost use mathlib.Core.List.{[]};
-ghost use Prim.Native.Nat.{ℕ, _<_, _≤_};
+ghost use Prim.Native.Nat.{ℕ, _-_, _<_, _≤_};
 ghost use lib.ListN.{length, getD, set};
 ghost use Rattle.std.specs.Options.{Cases as BySome};
 ghost use Rattle.queue.specs.declared.booking.Booking.{Booking};
@@ -47,6 +47,14 @@ fn is_due(b: &Booking, day: u16) -> bool
     ensures { λ r. ⌜ r ≡ due (now (b .entry)) day ⌝ }
 {
     b.day <= day
+}
+
+/// The count when one was taken out.
+fn one_less(count: usize) -> usize
+    requires { ⌜ 0 < count ⌝ }
+    ensures { λ r. ⌜ r ≡ count - 1 ⌝ }
+{
+    count - 1
 }
 
 /// Where among the first `count` places a booking for the same day and input stands.
@@ -113,7 +121,7 @@ impl Bookings {
                     return None;
                 }
                 self.places = places;
-                self.count -= 1;
+                self.count = one_less(self.count);
                 Some(first)
             }
             None => None,

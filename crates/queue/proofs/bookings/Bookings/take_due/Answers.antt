@@ -18,7 +18,7 @@ ghost-self c =
     let n = c .args .self .now .count in
     let e = c .in-Some .ensures tt in
     let t = takes (c .args .self .now .places) (c .take .last .heap) (c .in-Some .first) n (omega arith) (c .args .self .now .heaped) (e .items) (e .first (λ k d l. tt)) in
-    ((omega arith, omega arith), (∣ t .heaped ∣₁, (taken-once (take n (c .args .self .now .places)) (c .args .self .now .once) (c .in-Some .first) (take (n - 1) (c .take .last .heap)) (t .items) (t .first), tt)))
+    rw (c .one-less-self .ensures) ((omega arith, omega arith), (∣ t .heaped ∣₁, (taken-once (take n (c .args .self .now .places)) (c .args .self .now .once) (c .in-Some .first) (take (n - 1) (c .take .last .heap)) (t .items) (t .first), tt)))
 
 pub returns-else-not-is-due : need.returns-else-not-is-due
 returns-else-not-is-due c =
@@ -26,4 +26,4 @@ returns-else-not-is-due c =
     let e = c .in-Some .ensures tt in
     let t = takes (c .args .self .now .places) (c .take .last .heap) (c .in-Some .first) n (omega arith) (c .args .self .now .heaped) (e .items) (e .first (λ k d l. tt)) in
     let r = taken (take n (c .args .self .now .places)) (c .args .self .now .once) (c .in-Some .first) (take (n - 1) (c .take .last .heap)) (t .items) (t .first) (c .args .day) (sym (c .is-due .ensures) ∙ c .if-not-is-due .left) in
-    record { answer = r .0; left = r .1 }
+    rw (c .one-less-self .ensures) (record { answer = r .0; left = r .1 })
