@@ -1,4 +1,6 @@
 // Answers the stored journal on standard input; what it writes is held to the reference program's answers.
+#![tactic(auto)]
+
 use journal::answer::answer;
 use std::io::{Read, Write};
 

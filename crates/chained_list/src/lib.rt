@@ -1,4 +1,6 @@
 // Two makes of order list in lent member places.
+#![tactic(auto)]
+
 pub mod chained;
 pub mod labelling;
 mod links;

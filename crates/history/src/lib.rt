@@ -1,5 +1,7 @@
 // What the calls of a sheet do, and whole histories of them: an old sheet against a new one. Each law is asked for by the
 // contract of a function.
+#![tactic(auto)]
+
 ghost use Rattle.history.specs.History.{OldAgainstNew};
 ghost use Rattle.history.specs.Answered.{EveryCallIsAnswered, AnswersAreDetermined};
 ghost use Rattle.history.specs.Wrong.{AlwaysTooLarge, RepeatsItself, RunsAnew, InventsCounts};

@@ -1,4 +1,6 @@
 // The journal: the calls that a terminal, a test or a person writes, a line each, and what is answered to them.
+#![tactic(auto)]
+
 pub mod answer;
 pub mod call;
 pub mod cut;

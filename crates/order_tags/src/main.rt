@@ -1,4 +1,6 @@
 // Walks of calls over both makes of order list, and the tags that stand along each list after them.
+#![tactic(auto)]
+
 use chained_list::member::Member;
 use chained_list::renumbering::RenumberingList;
 use chained_list::tag_range::TagRangeList;

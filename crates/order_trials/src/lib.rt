@@ -1,4 +1,6 @@
 // Both makes of order list side by side.
+#![tactic(auto)]
+
 pub mod both;
 #[cfg(test)]
 mod drive;

@@ -1,4 +1,6 @@
 // Checked programs: what a text that keeps the rules says, and what a program computes with.
+#![tactic(auto)]
+
 pub mod arith;
 pub mod check;
 pub mod function;

@@ -1,4 +1,6 @@
 // Sheets: passes, and the calls on a sheet.
+#![tactic(auto)]
+
 mod fitting;
 pub mod pass;
 pub mod refusal;

@@ -1,4 +1,6 @@
 // Reads a journal on standard input, makes its calls, and writes what they answered on standard output.
+#![tactic(auto)]
+
 use journal::answer::answer;
 use std::io::{Read, Write};
 

@@ -1,4 +1,6 @@
 // Program texts, layer 1: lines of a word and fields. The layers above see words and numbers, no bytes.
+#![tactic(auto)]
+
 pub mod check;
 pub mod cut;
 pub mod fields;

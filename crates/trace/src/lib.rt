@@ -1,5 +1,7 @@
 // The meaning of a sheet: the plain run of a program on its inputs, its listing, and settling by turns. Each law is asked for
 // by the contract of a function.
+#![tactic(auto)]
+
 ghost use Rattle.trace.specs.Laws.{ShowsThePlainRun, PlainRunStands, TooLargeMeans};
 ghost use Rattle.trace.specs.Laws.{OneLineEach, TwoStampsEach, LinesTellEnds};
 ghost use Rattle.trace.specs.Laws.{TurnsLeaveARun, ReExecutingIsSettling, ReExecutingEnds, SettlingExists};

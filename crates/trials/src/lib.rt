@@ -1,4 +1,6 @@
 // Examples, run: what is told of texts, the six operations, and journals. Expected values are worked out from the rules.
+#![tactic(auto)]
+
 #[cfg(test)]
 mod journals;
 #[cfg(test)]
