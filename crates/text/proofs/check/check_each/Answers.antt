@@ -14,15 +14,15 @@ returns c =
 
 pub loop-rest-preserved : goal.loop-rest-preserved
 loop-rest-preserved c =
-    let r = c.in-ok--line.ensures in
+    let r = c.in_ok-_line.ensures in
     (sym (read_on c.loop-rest.number c.loop-rest.rest.now _ _ r) ∙ c.loop-rest.invariant.0, omega (arith, r.shorter, c.loop-rest.invariant.1))
 
 pub loop-rest-smaller : goal.loop-rest-smaller
-loop-rest-smaller c = c.in-ok--line.ensures.shorter
+loop-rest-smaller c = c.in_ok-_line.ensures.shorter
 
-pub returns-in-err--line : goal.returns-in-err--line
-returns-in-err--line c =
+pub returns-in_err-_line : goal.returns-in_err-_line
+returns-in_err-_line c =
     let bs = c.args.text.now in
-    let q = err_from_is_err_and c.from-residual.result c.from-residual.ensures.1 in
-    let e = fallen c.loop-rest.number c.loop-rest.rest.now _ c.in-err--line.ensures in
+    let q = err_from_is_err_and c.from_residual.result c.from_residual.ensures.1 in
+    let e = fallen c.loop-rest.number c.loop-rest.rest.now _ c.in_err-_line.ensures in
     q.1 ∙ ap Err q.2 ∙ ap (answer tt) (sym (in_length bs (omega arith) (omega arith) ∙ sym c.loop-rest.invariant.0 ∙ e))

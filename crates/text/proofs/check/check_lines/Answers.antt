@@ -3,4 +3,4 @@ use Rattle.text.proofs.Rendered.{rendering_of, lines_back}
 use Rattle.text.proofs.check.check_lines.Goals as goal
 
 pub returns : goal.returns
-returns c = record { value = c.check-each.ensures; fields = columns_of; columns = columns_back; texts = rendering_of; lines = lines_back }
+returns c = record { value = c.check_each.ensures; fields = columns_of; columns = columns_back; texts = rendering_of; lines = lines_back }

@@ -7,5 +7,5 @@ use Rattle.text.proofs.fields.field.Goals as goal
 pub returns-in-45 : goal.returns-in-45
 returns-in-45 c =
     let xs = c.args.columns.now in
-    let ys = c.unspaced-part.result.now in
-    c.negative.ensures ∙ ap as_negative (c.natural.ensures.value ∙ ap natural_of (take_rest ys 1)) ∙ sym (signed_minus ys (search rules) (search rules)) ∙ ap signed_of c.unspaced-part.ensures.value ∙ sym (field_six xs (search rules))
+    let ys = c.unspaced_part.result.now in
+    c.negative.ensures ∙ ap as_negative (c.natural.ensures.value ∙ ap natural_of (take_rest ys 1)) ∙ sym (signed_minus ys (search rules) (search rules)) ∙ ap signed_of c.unspaced_part.ensures.value ∙ sym (field_six xs (search rules))

@@ -7,14 +7,14 @@ use Rattle.text.proofs.fields.Fields.skip.Goals as goal
 pub returns-then-k-count : goal.returns-then-k-count
 returns-then-k-count c = c.none.ensures ∙ sym (drop_all c.args.k (numbers_in c.args.self.columns.now) (omega arith))
 
-pub overflow-mul-k : goal.overflow-mul-k
-overflow-mul-k c = let e = count_is c.args.self.columns.now in let h : 6 * c.args.k ≤ length c.args.self.columns.now = omega arith in search rules
+pub overflow_mul-k : goal.overflow_mul-k
+overflow_mul-k c = let e = count_is c.args.self.columns.now in let h : 6 * c.args.k ≤ length c.args.self.columns.now = omega arith in search rules
 
-pub columns-from-requires : goal.columns-from-requires
-columns-from-requires c = let e = count_is c.args.self.columns.now in omega arith
+pub columns_from-requires : goal.columns_from-requires
+columns_from-requires c = let e = count_is c.args.self.columns.now in omega arith
 
 pub returns : goal.returns
 returns c =
     let xs = c.args.self.columns.now in
     let e = count_is xs in
-    ap numbers_in c.columns-from.ensures ∙ numbers_drop c.args.k xs (omega arith)
+    ap numbers_in c.columns_from.ensures ∙ numbers_drop c.args.k xs (omega arith)
