@@ -43,12 +43,12 @@ fn link(places: &mut [Member], a: usize, b: usize)
 
 /// Puts n with the tag directly behind m.
 pub(crate) fn splice(places: &mut [Member], m: usize, n: usize, tag: u32)
-    requires m_in_bounds { m < length places.old }
-    requires n_in_bounds { n < length places.old }
-    requires m_nonzero { m ≢ n }
-    requires m_in_bounds_2 { next_of places.old m < length places.old }
-    requires m_nonzero_2 { next_of places.old m ≢ n }
-    requires places_len_bound { length places.old ≤ most_places }
+    requires member { m < length places.old }
+    requires free { n < length places.old }
+    requires apart { m ≢ n }
+    requires next { next_of places.old m < length places.old }
+    requires next_apart { next_of places.old m ≢ n }
+    requires few { length places.old ≤ most_places }
     ensures { Spliced places.old places.new m n tag }
 {
     let next = places[m].next as usize;
@@ -64,13 +64,13 @@ pub(crate) fn splice(places: &mut [Member], m: usize, n: usize, tag: u32)
 
 /// Takes m out from behind p; it then links to the free place h.
 fn unlink(places: &mut [Member], p: usize, m: usize, h: usize)
-    requires p_in_bounds { p < length places.old }
-    requires m_in_bounds { m < length places.old }
-    requires p_nonzero { p ≢ m }
-    requires m_in_bounds_2 { next_of places.old m < length places.old }
-    requires m_nonzero { next_of places.old m ≢ m }
-    requires h_lt_most_places { h < most_places }
-    requires places_len_bound { length places.old ≤ most_places }
+    requires before { p < length places.old }
+    requires member { m < length places.old }
+    requires apart { p ≢ m }
+    requires next { next_of places.old m < length places.old }
+    requires next_apart { next_of places.old m ≢ m }
+    requires link { h < most_places }
+    requires few { length places.old ≤ most_places }
     ensures { Unlinked places.old places.new p m h }
 {
     let next = places[m].next as usize;

@@ -11,14 +11,14 @@ returns-then-not-stands c =
       | then-not-stands-via-else-not-stands+then-not-stands-2 w ↦ λ k. no_right c.args.places.now c.args.a c.args.b k w.if-not-stands-2.ensures
     ]
 
-pub offset-bounds-places-a : goal.offset-bounds-places-a
-offset-bounds-places-a c = omega (arith, used_below c.args.places.now c.args.a c.if-not-stands.ensures)
+pub offset_bounds-places-a : goal.offset_bounds-places-a
+offset_bounds-places-a c = omega (arith, used_below c.args.places.now c.args.a c.if-not-stands.ensures)
 
 pub bounds-places-a : goal.bounds-places-a
 bounds-places-a c = used_below c.args.places.now c.args.a c.if-not-stands.ensures
 
-pub offset-bounds-places-b : goal.offset-bounds-places-b
-offset-bounds-places-b c = omega (arith, used_below c.args.places.now c.args.b c.if-not-stands-2.ensures)
+pub offset_bounds-places-b : goal.offset_bounds-places-b
+offset_bounds-places-b c = omega (arith, used_below c.args.places.now c.args.b c.if-not-stands-2.ensures)
 
 pub bounds-places-b : goal.bounds-places-b
 bounds-places-b c = used_below c.args.places.now c.args.b c.if-not-stands-2.ensures

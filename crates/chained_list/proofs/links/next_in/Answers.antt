@@ -6,8 +6,8 @@ use Rattle.chained_list.proofs.links.next_in.Goals as goal
 pub returns-then-not-stands : goal.returns-then-not-stands
 returns-then-not-stands c = λ k. next_none c.args.places.now c.args.m k c.if-not-stands.ensures
 
-pub offset-bounds-places-m : goal.offset-bounds-places-m
-offset-bounds-places-m c = omega (arith, used_below c.args.places.now c.args.m c.if-not-stands.ensures)
+pub offset_bounds-places-m : goal.offset_bounds-places-m
+offset_bounds-places-m c = omega (arith, used_below c.args.places.now c.args.m c.if-not-stands.ensures)
 
 pub bounds-places-m : goal.bounds-places-m
 bounds-places-m c = used_below c.args.places.now c.args.m c.if-not-stands.ensures

@@ -12,8 +12,8 @@ pub returns-then-m-eq0 : goal.returns-then-m-eq0
 returns-then-m-eq0 c =
     record { done = (refused_base c.args.places.now c.args.free.now c.args.m c.requires c.if-not-stands.ensures c.if-m-eq0.true, refl); placed = (refl, refl); kept = c.requires }
 
-pub offset-bounds-places-m : goal.offset-bounds-places-m
-offset-bounds-places-m c = omega (arith, used_below c.args.places.now c.args.m c.if-not-stands.ensures)
+pub offset_bounds-places-m : goal.offset_bounds-places-m
+offset_bounds-places-m c = omega (arith, used_below c.args.places.now c.args.m c.if-not-stands.ensures)
 
 pub bounds-places-m : goal.bounds-places-m
 bounds-places-m c = used_below c.args.places.now c.args.m c.if-not-stands.ensures
@@ -21,7 +21,15 @@ bounds-places-m c = used_below c.args.places.now c.args.m c.if-not-stands.ensure
 pub unlink-requires : goal.unlink-requires
 unlink-requires c =
     let r : Ready c.args.places.now c.args.free.now c.args.m = record { sound = c.requires; stands = c.if-not-stands.ensures; inner = c.if-m-eq0.false } in
-    (p_below _ _ _ r, m_below _ _ _ r, two _ _ _ r, x_below _ _ _ r, x_not_m _ _ _ r, h_below _ _ _ r, c.requires.few)
+    record {
+      before = p_below _ _ _ r;
+      member = m_below _ _ _ r;
+      apart = two _ _ _ r;
+      next = x_below _ _ _ r;
+      next_apart = x_not_m _ _ _ r;
+      link = h_below _ _ _ r;
+      few = c.requires.few;
+    }
 
 pub returns : goal.returns
 returns c =

@@ -15,8 +15,8 @@ turn c =
     let i = c.loop-rank.invariant in
     turned c.args.places.now c.loop-rank.places (order c.args.places.now) c.loop-rank.rank c.loop-rank.at c.requires.strung i.2 i.0 i.1 i.3
 
-pub offset-bounds-places-at : goal.offset-bounds-places-at
-offset-bounds-places-at c = omega (arith, in_place c)
+pub offset_bounds-places-at : goal.offset_bounds-places-at
+offset_bounds-places-at c = omega (arith, in_place c)
 
 pub bounds-places-at : goal.bounds-places-at
 bounds-places-at c = in_place c

@@ -10,8 +10,8 @@ loop-first-init c =
     let t = tag_of c.args.places.now c.args.first in
     (c.requires.member, omega arith, c.requires.high, ap suc (sym (nothing t t (tags c.args.places.now) (omega arith))))
 
-pub offset-bounds-places-at : goal.offset-bounds-places-at
-offset-bounds-places-at c = omega (arith, in_range c.args.places.now c.requires.holds c.loop-first.at c.loop-first.invariant.0, c.requires.few)
+pub offset_bounds-places-at : goal.offset_bounds-places-at
+offset_bounds-places-at c = omega (arith, in_range c.args.places.now c.requires.holds c.loop-first.at c.loop-first.invariant.0, c.requires.few)
 
 pub bounds-places-at : goal.bounds-places-at
 bounds-places-at c = in_range c.args.places.now c.requires.holds c.loop-first.at c.loop-first.invariant.0
@@ -21,8 +21,8 @@ returns-then-next-eq0 c =
     let i = c.loop-first.invariant in
     i.3 ∙ sym (count_end c.args.places.now c.requires.holds _ c.loop-first.at c.args.end i.0 i.1 i.2 (λ nz. absurd (nz c.if-next-eq0.true)))
 
-pub offset-bounds-places-next : goal.offset-bounds-places-next
-offset-bounds-places-next c =
+pub offset_bounds-places-next : goal.offset_bounds-places-next
+offset_bounds-places-next c =
     omega (arith, c.requires.few, in_range c.args.places.now c.requires.holds _ (next_member c.args.places.now c.requires.holds c.loop-first.at c.loop-first.invariant.0 c.if-next-eq0.false))
 
 pub bounds-places-next : goal.bounds-places-next
@@ -34,8 +34,8 @@ returns-then-tag-end c =
     let i = c.loop-first.invariant in
     i.3 ∙ sym (count_end c.args.places.now c.requires.holds _ c.loop-first.at c.args.end i.0 i.1 i.2 (λ nz. c.if-tag-end.true))
 
-pub overflow-add-count : goal.overflow-add-count
-overflow-add-count c =
+pub overflow_add-count : goal.overflow_add-count
+overflow_add-count c =
     let ps = c.args.places.now in
     omega (arith, c.loop-first.invariant.3, among_le (tag_of ps c.args.first) (tag_of ps c.loop-first.at) (tags ps), few_tags ps c.requires.holds, c.requires.few)
 
@@ -58,5 +58,5 @@ loop-first-preserved c =
       omega (arith, i.3, count_next ps c.requires.holds (tag_of ps c.args.first) a i.0 i.1 c.if-next-eq0.false),
     )
 
-pub overflow-cast-next : goal.overflow-cast-next
-overflow-cast-next c = omega (arith, c.requires.few, next_below c.args.places.now _ c.loop-first.at c.requires.holds.strung c.loop-first.invariant.0)
+pub overflow_cast-next : goal.overflow_cast-next
+overflow_cast-next c = omega (arith, c.requires.few, next_below c.args.places.now _ c.loop-first.at c.requires.holds.strung c.loop-first.invariant.0)

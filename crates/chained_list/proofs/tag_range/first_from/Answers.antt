@@ -2,8 +2,8 @@ use Rattle.std.proofs.Common.{arith}
 use Rattle.chained_list.proofs.Neighbours.{in_range, before_member, before_lower, none_before, none_at_base}
 use Rattle.chained_list.proofs.tag_range.first_from.Goals as goal
 
-pub offset-bounds-places-at : goal.offset-bounds-places-at
-offset-bounds-places-at c = omega (arith, in_range c.args.places.now c.requires.holds c.loop-at.at c.loop-at.invariant.0)
+pub offset_bounds-places-at : goal.offset_bounds-places-at
+offset_bounds-places-at c = omega (arith, in_range c.args.places.now c.requires.holds c.loop-at.at c.loop-at.invariant.0)
 
 pub bounds-places-at : goal.bounds-places-at
 bounds-places-at c = in_range c.args.places.now c.requires.holds c.loop-at.at c.loop-at.invariant.0

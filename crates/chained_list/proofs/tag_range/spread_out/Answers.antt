@@ -9,11 +9,11 @@ loop-j-init c =
     let same : Retagged c.args.places.now c.args.places.now = record { size = refl; links = λ _. refl; backs = λ _. refl; marks = λ _. refl; others = λ _ _. refl } in
     (same, λ _. begins _ c.requires.holds _ _ _ _ c.requires.ready 0 refl, λ k _. starts _ c.requires.holds _ _ _ _ c.requires.ready k)
 
-pub overflow-cast-places : goal.overflow-cast-places
-overflow-cast-places c = omega (arith, small _ c.requires.holds _ _ _ _ c.requires.ready c.loop-j.j c.loop-j-test.true)
+pub overflow_cast-places : goal.overflow_cast-places
+overflow_cast-places c = omega (arith, small _ c.requires.holds _ _ _ _ c.requires.ready c.loop-j.j c.loop-j-test.true)
 
-pub offset-bounds-places-at : goal.offset-bounds-places-at
-offset-bounds-places-at c =
+pub offset_bounds-places-at : goal.offset_bounds-places-at
+offset_bounds-places-at c =
     omega (arith, c.requires.few, in_range _ c.requires.holds c.loop-j.at (c.loop-j.invariant.1 c.loop-j-test.true).member)
 
 pub bounds-places-at : goal.bounds-places-at

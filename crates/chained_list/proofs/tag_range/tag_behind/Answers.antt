@@ -2,8 +2,8 @@ use Rattle.std.proofs.Common.{sym, arith}
 use Rattle.chained_list.proofs.Neighbours.{in_range, next_member, behind_last, behind_next}
 use Rattle.chained_list.proofs.tag_range.tag_behind.Goals as goal
 
-pub offset-bounds-places-m : goal.offset-bounds-places-m
-offset-bounds-places-m c = omega (arith, in_range c.args.places.now c.requires.holds c.args.m c.requires.member)
+pub offset_bounds-places-m : goal.offset_bounds-places-m
+offset_bounds-places-m c = omega (arith, in_range c.args.places.now c.requires.holds c.args.m c.requires.member)
 
 pub bounds-places-m : goal.bounds-places-m
 bounds-places-m c = in_range c.args.places.now c.requires.holds c.args.m c.requires.member

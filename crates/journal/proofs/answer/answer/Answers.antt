@@ -8,12 +8,12 @@ loop-rest-init c = λ out a. subst (λ xs. Answered c.args.journal.now (xs ++ ou
 
 pub loop-rest-preserved : goal.loop-rest-preserved
 loop-rest-preserved c = λ out a.
-    let g = c.in-ok-rest.ensures in
+    let g = c.in_ok-rest.ensures in
     let before = vec_items c.loop-rest.out in
     subst (Answered c.args.journal.now) (sym (ap (λ xs. xs ++ out) g.added ∙ append_assoc before g.said out)) (c.loop-rest.invariant (g.said ++ out) (g.goes out a))
 
 pub loop-rest-smaller : goal.loop-rest-smaller
-loop-rest-smaller c = c.in-ok-rest.ensures.shorter
+loop-rest-smaller c = c.in_ok-rest.ensures.shorter
 
 pub returns : goal.returns
 returns c =

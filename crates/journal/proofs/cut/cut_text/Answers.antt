@@ -7,17 +7,17 @@ pub loop-rest-init : goal.loop-rest-init
 loop-rest-init c = past_none c.args.journal.now
 
 pub loop-rest-preserved : goal.loop-rest-preserved
-loop-rest-preserved c = past_line _ _ _ _ c.loop-rest.invariant c.cut-line.ensures (sym c.if-spells.ensures)
+loop-rest-preserved c = past_line _ _ _ _ c.loop-rest.invariant c.cut_line.ensures (sym c.if-spells.ensures)
 
 pub loop-rest-smaller : goal.loop-rest-smaller
-loop-rest-smaller c = c.cut-line.ensures.shorter
+loop-rest-smaller c = c.cut_line.ensures.shorter
 
-pub overflow-sub-end : goal.overflow-sub-end
-overflow-sub-end c = let b = c.loop-rest.invariant in let l = ap length b.whole ∙ length-append b.front c.loop-rest.rest.now in omega arith
+pub overflow_sub-end : goal.overflow_sub-end
+overflow_sub-end c = let b = c.loop-rest.invariant in let l = ap length b.whole ∙ length-append b.front c.loop-rest.rest.now in omega arith
 
 pub returns-then-spells : goal.returns-then-spells
 returns-then-spells c =
-    let e = text_ends _ _ _ _ c.loop-rest.invariant c.cut-line.ensures (sym c.if-spells.ensures) in
+    let e = text_ends _ _ _ _ c.loop-rest.invariant c.cut_line.ensures (sym c.if-spells.ensures) in
     record { text = e.0; behind = e.1; shorter = e.2 }
 
 pub returns : goal.returns

@@ -13,4 +13,4 @@ judged bs (Err Memory) h = tt
 judged bs (Err (Fault x)) h = told_least bs x h
 
 pub returns : goal.returns
-returns c = record { tells = c.check-rules.ensures; judged = judged c.args.text.now c.check-rules.result c.check-rules.ensures }
+returns c = record { tells = c.check_rules.ensures; judged = judged c.args.text.now c.check_rules.result c.check_rules.ensures }

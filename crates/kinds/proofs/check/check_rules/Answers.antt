@@ -21,14 +21,14 @@ moved hs hs' k t x p q = ap (λ h. known_after h k t.1) p ∙ ap (λ (u : Told).
 pub heads-requires : goal.heads-requires
 heads-requires c =
     let bs = c.args.text.now in
-    (shaped bs (answer_ok tt c.in-ok-check-shape.field-0 (shape_fault bs) c.in-ok-check-shape.ensures).0).0
+    (shaped bs (answer_ok tt c.in_ok-check_shape.field-0 (shape_fault bs) c.in_ok-check_shape.ensures).0).0
 
 pub loop-line-init : goal.loop-line-init
 loop-line-init c =
     let bs = c.args.text.now in
     let hs = heads_of (lines_of bs) in
     let l = c.of-lines.result in
-    let e = (shaped bs (answer_ok tt c.in-ok-check-shape.field-0 (shape_fault bs) c.in-ok-check-shape.ensures).0).0 in
+    let e = (shaped bs (answer_ok tt c.in_ok-check_shape.field-0 (shape_fault bs) c.in_ok-check_shape.ensures).0).0 in
     ap (λ k. first (known_after hs) (kind_rules hs) k (passed l + 1) (left l)) c.none-registers.ensures ∙ ap (λ n. first (known_after hs) (kind_rules hs) unknown (n + 1) (left l)) c.of-lines.ensures.passed ∙ ap (first (known_after hs) (kind_rules hs) unknown 1) (c.of-lines.ensures.left ∙ lines_standing bs e)
 
 pub returns-in-Some-refusal : goal.returns-in-Some-refusal
@@ -37,11 +37,11 @@ returns-in-Some-refusal c =
     let hs = heads_of (lines_of bs) in
     let k = known c.loop-line.registers in
     let l = c.loop-line.lines in
-    let m = c.next-line.new.self in
+    let m = c.next_line.new.self in
     let x = c.in-Some.line in
-    let h = ap heads_held c.as-slice.ensures.value ∙ c.in-ok-heads.ensures in
-    let a = answer_ok tt c.in-ok-check-shape.field-0 (shape_fault bs) c.in-ok-check-shape.ensures in
-    let j = judged hs (heads_held c.as-slice.result.now) k (told c.parts-number.result) (numbered x, said x) (none_left (left m)) h c.parts-number.ensures in
+    let h = ap heads_held c.as_slice.ensures.value ∙ c.in_ok-heads.ensures in
+    let a = answer_ok tt c.in_ok-check_shape.field-0 (shape_fault bs) c.in_ok-check_shape.ensures in
+    let j = judged hs (heads_held c.as_slice.result.now) k (told c.parts-number.result) (numbered x, said x) (none_left (left m)) h c.parts-number.ensures in
     ap (λ o. over_shape o (kind_fault_of (lines_of bs))) a.0 ∙ sym c.loop-line.invariant ∙ turned (known_after hs) (kind_rules hs) k x l m c.in-Some.ensures ∙ ap (λ o. or_else o (first (known_after hs) (kind_rules hs) (known_after hs k (said x)) (passed m + 1) (left m))) (sym (c.in-Some-refusal.ensures ∙ j))
 
 pub loop-line-smaller : goal.loop-line-smaller
@@ -53,13 +53,13 @@ loop-line-preserved c =
     let hs = heads_of (lines_of bs) in
     let k = known c.loop-line.registers in
     let l = c.loop-line.lines in
-    let m = c.next-line.new.self in
+    let m = c.next_line.new.self in
     let x = c.in-Some.line in
-    let h = ap heads_held c.as-slice.ensures.value ∙ c.in-ok-heads.ensures in
-    let h' = ap heads_held c.as-slice-in-Some.ensures.value ∙ c.in-ok-heads.ensures in
-    let j = judged hs (heads_held c.as-slice.result.now) k (told c.parts-number.result) (numbered x, said x) (none_left (left m)) h c.parts-number.ensures in
-    let v = moved hs (heads_held c.as-slice-in-Some.result.now) k (told c.parts-number.result) (numbered x, said x) h' c.parts-number.ensures in
-    ap (λ u. first (known_after hs) (kind_rules hs) u (passed m + 1) (left m)) (c.in-ok-registers.ensures ∙ v) ∙ ap (λ o. or_else o (first (known_after hs) (kind_rules hs) (known_after hs k (said x)) (passed m + 1) (left m))) (c.in-default-refusal.ensures ∙ j) ∙ sym (turned (known_after hs) (kind_rules hs) k x l m c.in-Some.ensures) ∙ c.loop-line.invariant
+    let h = ap heads_held c.as_slice.ensures.value ∙ c.in_ok-heads.ensures in
+    let h' = ap heads_held c.as_slice-in-Some.ensures.value ∙ c.in_ok-heads.ensures in
+    let j = judged hs (heads_held c.as_slice.result.now) k (told c.parts-number.result) (numbered x, said x) (none_left (left m)) h c.parts-number.ensures in
+    let v = moved hs (heads_held c.as_slice-in-Some.result.now) k (told c.parts-number.result) (numbered x, said x) h' c.parts-number.ensures in
+    ap (λ u. first (known_after hs) (kind_rules hs) u (passed m + 1) (left m)) (c.in_ok-registers.ensures ∙ v) ∙ ap (λ o. or_else o (first (known_after hs) (kind_rules hs) (known_after hs k (said x)) (passed m + 1) (left m))) (c.in_default-refusal.ensures ∙ j) ∙ sym (turned (known_after hs) (kind_rules hs) k x l m c.in-Some.ensures) ∙ c.loop-line.invariant
 
 pub returns : goal.returns
 returns c =
@@ -67,11 +67,11 @@ returns c =
     let hs = heads_of (lines_of bs) in
     let k = known c.loop-line.registers in
     let l = c.loop-line.lines in
-    let a = answer_ok tt c.in-ok-check-shape.field-0 (shape_fault bs) c.in-ok-check-shape.ensures in
-    ap (λ o. over_shape o (kind_fault_of (lines_of bs))) a.0 ∙ sym c.loop-line.invariant ∙ ap (first (known_after hs) (kind_rules hs) k (passed l + 1)) c.in-default.ensures.0
+    let a = answer_ok tt c.in_ok-check_shape.field-0 (shape_fault bs) c.in_ok-check_shape.ensures in
+    ap (λ o. over_shape o (kind_fault_of (lines_of bs))) a.0 ∙ sym c.loop-line.invariant ∙ ap (first (known_after hs) (kind_rules hs) k (passed l + 1)) c.in_default.ensures.0
 
-pub returns-in-err-check-shape : goal.returns-in-err-check-shape
-returns-in-err-check-shape c =
+pub returns-in_err-check_shape : goal.returns-in_err-check_shape
+returns-in_err-check_shape c =
     let bs = c.args.text.now in
-    let q = err_from_is_err_and c.from-residual.result c.from-residual.ensures.1 in
-    rw (q.1, q.2) (ap (λ o. over_shape o (kind_fault_of (lines_of bs))) (answer_err tt _ (shape_fault bs) c.in-err-check-shape.ensures))
+    let q = err_from_is_err_and c.from_residual.result c.from_residual.ensures.1 in
+    rw (q.1, q.2) (ap (λ o. over_shape o (kind_fault_of (lines_of bs))) (answer_err tt _ (shape_fault bs) c.in_err-check_shape.ensures))

@@ -14,10 +14,10 @@ loop-line-init c = ap (λ hs. heads_held hs ++ heads_of (left c.of-lines.result)
 pub loop-line-preserved : goal.loop-line-preserved
 loop-line-preserved c =
     let h = c.in-Some.ensures in
-    let rest = heads_of (left c.next-line.new.self) in
+    let rest = heads_of (left c.next_line.new.self) in
     let old = heads_held (vec_items c.loop-line.heads) in
     let H : Said → List (List ℤ) = λ x. head_line x.0 x.1 in
-    ap (λ hs. hs ++ rest) c.in-ok-heads.ensures ∙ append_assoc old (H (told c.parts-word.result).1) rest ∙ ap (λ (y : Told). old ++ (H y.1 ++ rest)) c.parts-word.ensures ∙ ap (λ ls. old ++ heads_of ls) (sym h.0) ∙ c.loop-line.invariant
+    ap (λ hs. hs ++ rest) c.in_ok-heads.ensures ∙ append_assoc old (H (told c.parts-word.result).1) rest ∙ ap (λ (y : Told). old ++ (H y.1 ++ rest)) c.parts-word.ensures ∙ ap (λ ls. old ++ heads_of ls) (sym h.0) ∙ c.loop-line.invariant
 
 pub loop-line-smaller : goal.loop-line-smaller
 loop-line-smaller c = omega (arith, ap length c.in-Some.ensures.0)
@@ -25,4 +25,4 @@ loop-line-smaller c = omega (arith, ap length c.in-Some.ensures.0)
 pub returns : goal.returns
 returns c =
     let old = heads_held (vec_items c.loop-line.heads) in
-    sym (append-nil old) ∙ ap (λ ls. old ++ heads_of ls) (sym c.in-default.ensures.0) ∙ c.loop-line.invariant
+    sym (append-nil old) ∙ ap (λ ls. old ++ heads_of ls) (sym c.in_default.ensures.0) ∙ c.loop-line.invariant

@@ -6,4 +6,4 @@ pub loop-i-preserved : goal.loop-i-preserved
 loop-i-preserved c =
     let xs = vec_items c.args.kinds in
     let k = c.args.kind in
-    c.in-ok-push.ensures.items ∙ ap (λ ys. ys ++ k ∷ []) c.loop-i.invariant ∙ append_assoc xs (replicate c.loop-i.-i k) (k ∷ []) ∙ ap (λ ys. xs ++ ys) (replicate_more c.loop-i.-i k)
+    c.in_ok-push.ensures.items ∙ ap (λ ys. ys ++ k ∷ []) c.loop-i.invariant ∙ append_assoc xs (replicate c.loop-i._i k) (k ∷ []) ∙ ap (λ ys. xs ++ ys) (replicate_more c.loop-i._i k)

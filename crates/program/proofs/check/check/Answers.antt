@@ -14,14 +14,14 @@ refused bs p (Fault f) j = (j, refl)
 refused bs p Memory j = refl
 
 pub returns : goal.returns
-returns c = (c.in-ok-check-kinds.ensures.judged, says c.args.text.now c.in-ok-place.field-0 c.in-ok-check-kinds.ensures.tells c.in-ok-place.ensures, sound c.in-ok-place.field-0)
+returns c = (c.in_ok-check_kinds.ensures.judged, says c.args.text.now c.in_ok-place.field-0 c.in_ok-check_kinds.ensures.tells c.in_ok-place.ensures, sound c.in_ok-place.field-0)
 
-pub returns-in-err-check-kinds : goal.returns-in-err-check-kinds
-returns-in-err-check-kinds c =
-    let q = err_from_is_err_and c.from-residual.result c.from-residual.ensures.1 in
-    rw (q.1, q.2) (refused c.args.text.now c.args.place.now _ c.in-err-check-kinds.ensures.judged)
+pub returns-in_err-check_kinds : goal.returns-in_err-check_kinds
+returns-in_err-check_kinds c =
+    let q = err_from_is_err_and c.from_residual.result c.from_residual.ensures.1 in
+    rw (q.1, q.2) (refused c.args.text.now c.args.place.now _ c.in_err-check_kinds.ensures.judged)
 
-pub returns-in-err-place : goal.returns-in-err-place
-returns-in-err-place c =
-    let q = err_from_is_err_and c.from-residual-in-err-place.result c.from-residual-in-err-place.ensures.1 in
+pub returns-in_err-place : goal.returns-in_err-place
+returns-in_err-place c =
+    let q = err_from_is_err_and c.from_residual-in_err-place.result c.from_residual-in_err-place.ensures.1 in
     rw (q.1, q.2) refl

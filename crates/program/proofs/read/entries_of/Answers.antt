@@ -9,7 +9,7 @@ loop-j-preserved c =
     let zs = values c.args.fields in
     let j = c.loop-j.j in
     let l : j < length zs = omega arith in
-    c.in-ok-push.ensures.items ∙ ap (λ ks. ks ++ c.entry.result ∷ []) c.loop-j.invariant ∙ ap (λ y. entries (take j zs) ++ y ∷ []) c.entry.ensures ∙ sym (map_more entry_of zs j (pos 0) l)
+    c.in_ok-push.ensures.items ∙ ap (λ ks. ks ++ c.entry.result ∷ []) c.loop-j.invariant ∙ ap (λ y. entries (take j zs) ++ y ∷ []) c.entry.ensures ∙ sym (map_more entry_of zs j (pos 0) l)
 
 pub returns : goal.returns
 returns c = let zs = values c.args.fields in c.loop-j.invariant ∙ ap entries (take_all c.loop-j.j zs (omega arith))

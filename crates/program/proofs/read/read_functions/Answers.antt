@@ -20,36 +20,36 @@ headed l m k zs x e q f =
     let h = head_due k n.0 in
     (h, subst (λ (j : Word). Held j zs) h n.1, subst (λ (j : Word). Formed (due_after (part_of j)) m) h n.2)
 
-pub read-function-requires : goal.read-function-requires
-read-function-requires c =
-    let h = headed (left c.loop-line.lines) (left c.next-line.new.self) c.parts.result.1 (values c.parts.result.2) (said c.in-Some.line) c.in-Some.ensures.0 (ap (λ (t : Told). t.1) c.parts.ensures) c.loop-line.invariant.1 in
+pub read_function-requires : goal.read_function-requires
+read_function-requires c =
+    let h = headed (left c.loop-line.lines) (left c.next_line.new.self) c.parts.result.1 (values c.parts.result.2) (said c.in-Some.line) c.in-Some.ensures.0 (ap (λ (t : Told). t.1) c.parts.ensures) c.loop-line.invariant.1 in
     record { head = h.1; body = h.2 }
 
 pub loop-line-preserved : goal.loop-line-preserved
 loop-line-preserved c =
     let zs = values c.parts.result.2 in
-    let m = left c.next-line.new.self in
+    let m = left c.next_line.new.self in
     let q = ap (λ (t : Told). t.1) c.parts.ensures in
     let h = headed (left c.loop-line.lines) m c.parts.result.1 zs (said c.in-Some.line) c.in-Some.ensures.0 q c.loop-line.invariant.1 in
     let fs = vec_items c.loop-line.functions in
-    let f = c.in-ok-function.function in
-    let r = c.in-ok-function.ensures in
-    let rest = left c.read-function.new.lines in
+    let f = c.in_ok-function.function in
+    let r = c.in_ok-function.ensures in
+    let rest = left c.read_function.new.lines in
     let J = flat_map function_lines in (
-      ap (λ ys. J ys ++ rest) c.in-ok-push.ensures.items ∙ ap (λ ys. ys ++ rest) (sym (flat_map_more function_lines [] fs f)) ∙ append_assoc (J fs) (function_lines f) rest ∙ ap (λ ys. J fs ++ ys) (sym r.0 ∙ ap (λ (j : Word). (j, zs) ∷ m) (sym h.0) ∙ ap (λ y. y ∷ m) q ∙ sym c.in-Some.ensures.0) ∙ c.loop-line.invariant.0,
+      ap (λ ys. J ys ++ rest) c.in_ok-push.ensures.items ∙ ap (λ ys. ys ++ rest) (sym (flat_map_more function_lines [] fs f)) ∙ append_assoc (J fs) (function_lines f) rest ∙ ap (λ ys. J fs ++ ys) (sym r.0 ∙ ap (λ (j : Word). (j, zs) ∷ m) (sym h.0) ∙ ap (λ y. y ∷ m) q ∙ sym c.in-Some.ensures.0) ∙ c.loop-line.invariant.0,
       r.1,
     )
 
 pub loop-line-smaller : goal.loop-line-smaller
 loop-line-smaller c =
-    let m = left c.next-line.new.self in
-    let f = c.in-ok-function.function in
-    let rest = left c.read-function.new.lines in
+    let m = left c.next_line.new.self in
+    let f = c.in_ok-function.function in
+    let rest = left c.read_function.new.lines in
     let a = ap length c.in-Some.ensures.0 in
-    let b : suc (length m) ≡ length (function_lines f) + length rest = ap length c.in-ok-function.ensures.0 ∙ length-append (function_lines f) rest in
+    let b : suc (length m) ≡ length (function_lines f) + length rest = ap length c.in_ok-function.ensures.0 ∙ length-append (function_lines f) rest in
     omega arith
 
 pub returns : goal.returns
 returns c =
     let fs = flat_map function_lines (vec_items c.loop-line.functions) in
-    sym (append-nil fs) ∙ ap (λ ls. fs ++ ls) (sym c.in-default.ensures.0) ∙ c.loop-line.invariant.0
+    sym (append-nil fs) ∙ ap (λ ls. fs ++ ls) (sym c.in_default.ensures.0) ∙ c.loop-line.invariant.0

@@ -12,6 +12,6 @@ pub returns : goal.returns
 returns c =
     let zs = values c.args.fields in
     let S : List ℤ → Said = λ ys. (w.Get, ys) in
-    let args = vec_items c.in-ok-args.args in
-    let a : args ≡ entries (drop 2 zs) = c.in-ok-args.ensures ∙ ap entries c.skip.ensures in
+    let args = vec_items c.in_ok-args.args in
+    let a : args ≡ entries (drop 2 zs) = c.in_ok-args.ensures ∙ ap entries c.skip.ensures in
     let h = c.requires in ap S (ap (λ y. pos y ∷ pos c.entry-2.result ∷ wholes args) c.entry.ensures ∙ ap (λ y. pos (entry_of (get_or zs 0 (pos 0))) ∷ pos y ∷ wholes args) c.entry-2.ensures ∙ ap (λ ys. pos (entry_of (get_or zs 0 (pos 0))) ∷ pos (entry_of (get_or zs 1 (pos 0))) ∷ wholes ys) a ∙ get_back zs h.0 h.1)

@@ -5,25 +5,32 @@ use Rattle.chained_list.proofs.Standing.{each_place}
 use Rattle.chained_list.proofs.Ranks.{strung_order, sound_after, inserted_after, ranked_after, chain_after}
 use Rattle.chained_list.proofs.renumbering.RenumberingLabelling.insert_in.Goals as goal
 
-pub offset-bounds-places-n : goal.offset-bounds-places-n
-offset-bounds-places-n c = let g = c.in-ok-n.ensures.1 in omega (arith, c.requires.few, h_below _ _ _ g)
+pub offset_bounds-places-n : goal.offset_bounds-places-n
+offset_bounds-places-n c = let g = c.in_ok-n.ensures.1 in omega (arith, c.requires.few, h_below _ _ _ g)
 
 pub bounds-places-n : goal.bounds-places-n
-bounds-places-n c = h_below _ _ _ c.in-ok-n.ensures.1
+bounds-places-n c = h_below _ _ _ c.in_ok-n.ensures.1
 
 pub splice-requires : goal.splice-requires
 splice-requires c =
-    let g = c.in-ok-n.ensures.1 in
-    (m_below _ _ _ g, h_below _ _ _ g, m_not_h _ _ _ g, x_below _ _ _ g, x_not_h _ _ _ g, c.requires.few)
+    let g = c.in_ok-n.ensures.1 in
+    record {
+      member = m_below _ _ _ g;
+      free = h_below _ _ _ g;
+      apart = m_not_h _ _ _ g;
+      next = x_below _ _ _ g;
+      next_apart = x_not_h _ _ _ g;
+      few = c.requires.few;
+    }
 
 pub renumber-requires : goal.renumber-requires
 renumber-requires c =
-    record { strung = strung_order _ _ _ c.in-ok-n.ensures.1 _ c.splice.ensures; few = omega (arith, c.requires.few, c.splice.ensures.size) }
+    record { strung = strung_order _ _ _ c.in_ok-n.ensures.1 _ c.splice.ensures; few = omega (arith, c.requires.few, c.splice.ensures.size) }
 
 pub returns : goal.returns
 returns c =
-    let e = c.in-ok-n.ensures.0 in
-    let g = c.in-ok-n.ensures.1 in
+    let e = c.in_ok-n.ensures.0 in
+    let g = c.in_ok-n.ensures.1 in
     record {
       done = inserted_after _ _ _ g _ c.splice.ensures _ c.renumber.ensures.same c.renumber.ensures.ranks;
       placed = (

@@ -14,5 +14,5 @@ lines_of_parts f r ps cs t a b c d =
 
 pub returns : goal.returns
 returns c =
-    let f = c.puts-register-0.ensures in
-    lines_of_parts c.puts-register-0.result k.ModNumber [] _ (t.Put 0) f.head.0 (ap vec_items f.head.1 ∙ c.new.ensures.items) (ap vec_items f.body.0 ∙ c.in-ok-commands.ensures.items) f.body.1
+    let f = c.puts_register_0.ensures in
+    lines_of_parts c.puts_register_0.result k.ModNumber [] _ (t.Put 0) f.head.0 (ap vec_items f.head.1 ∙ c.new.ensures.items) (ap vec_items f.body.0 ∙ c.in_ok-commands.ensures.items) f.body.1
