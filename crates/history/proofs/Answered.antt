@@ -12,7 +12,7 @@ use Rattle.trace.specs.Listing.{Line, lines, rank, canonical, result_of}
 use Rattle.trace.specs.Laws.{ASettle}
 use Rattle.trace.proofs.Renamed.{size_renamed}
 use Rattle.trace.proofs.Plain.{is_plain, plain_run_stands}
-use Rattle.trace.proofs.By-value.{counts_of_the_plain_run}
+use Rattle.trace.proofs.ByValue.{counts_of_the_plain_run}
 use Rattle.trace.proofs.Settled.{turns_leave_a_run}
 use Rattle.trace.proofs.Exists.{settling_exists}
 use Rattle.history.specs.Calls.{Resting, settled, unsettled, Make, Call, OPEN, POST, WITHDRAW, SETTLE, BOOK, TURN, RESULT, LINE, Refusal, Answer, refused, gives, done, too_large, content, line, show}

@@ -1,7 +1,7 @@
 -- The first places of a slice as a queue: one more at the end, and one less at the front.
 use Rattle.std.proofs.Common.{◌≡◌, ℕ, suc, ◌+◌, ◌-◌, ◌<◌, ◌≤◌, Bool, List, [], ◌∷◌, ◌++◌, length, get_or, take, drop, set, sym, ap, ◌∙◌, subst, ⊎_elim, arith}
 use Rattle.std.specs.List.Sorted.{IsPermutation}
-use Rattle.std.proofs.Permutation.{taken-first}
+use Rattle.std.proofs.Permutation.{taken_at}
 use Rattle.std.proofs.lemmas.List.{length-take-le, length-set, get_or-take, get_or-set_same, get_or-set_other, get_or_append_left, get_or_default, take_more_set, same_lists, places}
 use Rattle.std.proofs.lemmas.List.Sorted.{IsPermutation-sym, IsPermutation-trans, IsPermutation-to_front, IsPermutation-cons, length_permutation}
 use Rattle.std.proofs.lemmas.Slice.{take-put_mid, drop-put_mid}
@@ -49,7 +49,7 @@ module _ {X : Type 0} (xs : List X) (n : ℕ) (x v : X) (some : 0 < n) (room : n
       ∙ sym (get_or-take (n - 1) (set xs 0 v) k d short))
 
   pub take_split : IsPermutation (take n xs) (x ∷ take (n - 1) (set xs 0 v))
-  take_split = subst (λ (l : List X). IsPermutation (take n xs) (x ∷ l)) shrunk (taken-first (take n xs) x (omega (arith, long)) (first_is x))
+  take_split = subst (λ (l : List X). IsPermutation (take n xs) (x ∷ l)) shrunk (taken_at (take n xs) 0 x (omega (arith, long)) (first_is x))
 
   pub take_shuffled : (ys : List X) → IsPermutation (take (n - 1) (set xs 0 v)) ys → IsPermutation (take n xs) (x ∷ ys)
   take_shuffled ys s = IsPermutation-trans (take n xs) (x ∷ take (n - 1) (set xs 0 v)) (x ∷ ys) take_split (IsPermutation-cons x (take (n - 1) (set xs 0 v)) ys s)

@@ -39,7 +39,7 @@ fn is_full(count: usize, places: usize) -> bool
 /// Whether the element at i stands before the one at j.
 fn is_before<Q: Order>(order: &Q, heap: &[Q::Element], i: usize, j: usize) -> bool
     requires { (i < length heap.now) × (j < length heap.now) }
-    ensures { (d : Q.Element) → belongs order.now (slice_index_or heap.now i d) → belongs order.now (slice_index_or heap.now j d) → precedes order.now (slice_index_or heap.now i d) (slice_index_or heap.now j d) ≡ result }
+    ensures { (d : Q.Element) → Q.belongs order.now (slice_index_or heap.now i d) → Q.belongs order.now (slice_index_or heap.now j d) → Q.precedes order.now (slice_index_or heap.now i d) (slice_index_or heap.now j d) ≡ result }
 {
     order.before(&heap[i], &heap[j])
 }
@@ -48,7 +48,7 @@ fn is_before<Q: Order>(order: &Q, heap: &[Q::Element], i: usize, j: usize) -> bo
 fn rise<Q: Order>(order: &Q, heap: &mut [Q::Element])
     requires { 0 < length heap.old }
     ensures shuffled { IsPermutation heap.old heap.new }
-    ensures heaped { Belong (belongs order.now) heap.old → HeapedTo (precedes order.now) heap.old (length heap.old - 1) → Heaped (precedes order.now) heap.new }
+    ensures heaped { Belong (Q.belongs order.now) heap.old → HeapedTo (Q.precedes order.now) heap.old (length heap.old - 1) → Heaped (Q.precedes order.now) heap.new }
 {
     let mut place = heap.len() - 1;
     while 0 < place {
@@ -65,7 +65,7 @@ fn rise<Q: Order>(order: &Q, heap: &mut [Q::Element])
 fn foremost_child<Q: Order>(order: &Q, heap: &[Q::Element], place: usize) -> usize
     requires { place * 2 + 1 < length heap.now }
     ensures bound { (result < length heap.now) × (place * 2 + 1 ≤ result) × (result ≤ place * 2 + 2) }
-    ensures foremost { Belong (belongs order.now) heap.now → Foremost (precedes order.now) heap.now place result }
+    ensures foremost { Belong (Q.belongs order.now) heap.now → Foremost (Q.precedes order.now) heap.now place result }
 {
     let places = heap.len();
     let left = left_child(place);
@@ -81,7 +81,7 @@ fn foremost_child<Q: Order>(order: &Q, heap: &[Q::Element], place: usize) -> usi
 /// Moves the first element down, until no child stands before it.
 fn sink<Q: Order>(order: &Q, heap: &mut [Q::Element])
     ensures shuffled { IsPermutation heap.old heap.new }
-    ensures heaped { Belong (belongs order.now) heap.old → HeapedBut (precedes order.now) heap.old → Heaped (precedes order.now) heap.new }
+    ensures heaped { Belong (Q.belongs order.now) heap.old → HeapedBut (Q.precedes order.now) heap.old → Heaped (Q.precedes order.now) heap.new }
 {
     let n = heap.len();
     let mut place = 0;
@@ -105,7 +105,7 @@ pub fn put<Q: Order>(
     ensures test { is_ok result ≡ nat_lt count (length heap.old) }
     ensures items { MatchResult result (λ n. (n ≡ count + 1) × IsPermutation (x ∷ take count heap.old) (take (count + 1) heap.new)) (λ _. heap.new ≡ heap.old) }
     ensures rest { drop (count + 1) heap.new ≡ drop (count + 1) heap.old }
-    ensures heaped { OnOk result (Belong (belongs order.now) (x ∷ take count heap.old) → Heaped (precedes order.now) (take count heap.old) → Heaped (precedes order.now) (take (count + 1) heap.new)) }
+    ensures heaped { OnOk result (Belong (Q.belongs order.now) (x ∷ take count heap.old) → Heaped (Q.precedes order.now) (take count heap.old) → Heaped (Q.precedes order.now) (take (count + 1) heap.new)) }
 {
     if is_full(count, heap.len()) {
         return Err(QueueRefusal::Full);
@@ -121,7 +121,7 @@ fn take_within<Q: Order>(order: &Q, heap: &mut [Q::Element], count: usize) -> Op
     ensures test { is_some result ≡ nat_lt 0 count }
     ensures items { MatchOption result (heap.new ≡ heap.old) (λ x. IsPermutation (take count heap.old) (x ∷ take (count - 1) heap.new)) }
     ensures rest { drop count heap.new ≡ drop count heap.old }
-    ensures first { IfSome result (λ x. Belong (belongs order.now) (take count heap.old) → Heaped (precedes order.now) (take count heap.old) → First (precedes order.now) x (take count heap.old) × Heaped (precedes order.now) (take (count - 1) heap.new)) }
+    ensures first { IfSome result (λ x. Belong (Q.belongs order.now) (take count heap.old) → Heaped (Q.precedes order.now) (take count heap.old) → First (Q.precedes order.now) x (take count heap.old) × Heaped (Q.precedes order.now) (take (count - 1) heap.new)) }
 {
     if count == 0 {
         return None;
@@ -138,7 +138,7 @@ pub fn take<Q: Order>(order: &Q, heap: &mut [Q::Element], count: usize) -> Optio
     ensures test { is_some result ≡ nat_lt 0 (held_of count heap.old) }
     ensures items { MatchOption result (heap.new ≡ heap.old) (λ x. IsPermutation (take (held_of count heap.old) heap.old) (x ∷ take (held_of count heap.old - 1) heap.new)) }
     ensures rest { drop (held_of count heap.old) heap.new ≡ drop (held_of count heap.old) heap.old }
-    ensures first { IfSome result (λ x. Belong (belongs order.now) (take (held_of count heap.old) heap.old) → Heaped (precedes order.now) (take (held_of count heap.old) heap.old) → First (precedes order.now) x (take (held_of count heap.old) heap.old) × Heaped (precedes order.now) (take (held_of count heap.old - 1) heap.new)) }
+    ensures first { IfSome result (λ x. Belong (Q.belongs order.now) (take (held_of count heap.old) heap.old) → Heaped (Q.precedes order.now) (take (held_of count heap.old) heap.old) → First (Q.precedes order.now) x (take (held_of count heap.old) heap.old) × Heaped (Q.precedes order.now) (take (held_of count heap.old - 1) heap.new)) }
 {
     let n = held(count, heap.len());
     take_within(order, heap, n)

@@ -8,7 +8,7 @@ pub mod Listed
 pub mod Stamps
 pub mod Alike
 pub mod Counted
-pub mod By-value
+pub mod ByValue
 pub mod ReadOut
 pub mod Computed
 pub mod Exists

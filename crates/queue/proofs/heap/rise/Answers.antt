@@ -20,11 +20,11 @@ loop-place-preserved g c =
       λ all h.
           let all' = belong_shuffled P zs l.heap l.invariant.2 all in
           rise_steps before P laws l.heap ys up l.place all' (omega arith) (omega arith) (omega arith) (omega arith) s.0 s.1 s.2
-          (λ d. c.if-not-is-before.ensures d (all' _ d (omega arith)) (all' _ d (omega arith))) (l.invariant.3 all h),
+          (λ d. c.if-not-is_before.ensures d (all' _ d (omega arith)) (all' _ d (omega arith))) (l.invariant.3 all h),
     )
 
-pub returns-then-not-is-before : goal.returns-then-not-is-before
-returns-then-not-is-before g c =
+pub returns-then-not-is_before : goal.returns-then-not-is_before
+returns-then-not-is_before g c =
     let o = c.args.order.now in
     let P = g.Q.Order.belongs o in
     let before = g.Q.Order.precedes o in
@@ -38,5 +38,5 @@ returns-then-not-is-before g c =
           let i = l.invariant.3 all h in
           filled before l.heap l.place i.0 i.1 (λ p d a b.
           let e : p ≡ up = omega arith in
-          ap (λ m. before (get_or l.heap l.place d) (get_or l.heap m d)) e ∙ c.if-not-is-before.ensures d (all' _ d (omega arith)) (all' _ d (omega arith)));
+          ap (λ m. before (get_or l.heap l.place d) (get_or l.heap m d)) e ∙ c.if-not-is_before.ensures d (all' _ d (omega arith)) (all' _ d (omega arith)));
     }
