@@ -10,11 +10,11 @@ use Rattle.code.proofs.Steps.{On, missing_writes, tail_on, at_command, fits_here
 use Rattle.code.proofs.running.Running.next.Goals as goal
 use Rattle.code.proofs.running.Running.next.Goals.{After-len, After-index}
 
-pub returns-in-default : goal.returns-in-default
-returns-in-default c =
+pub returns-in_default : goal.returns-in_default
+returns-in_default c =
     let p = c.args.program.now in
     let r = c.args.self in
-    missing_writes (viewed p) r (missing p r.function c.deref.result.now c.deref.ensures.value c.in-default.ensures.lookup.0)
+    missing_writes (viewed p) r (missing p r.function c.deref.result.now c.deref.ensures.value c.in_default.ensures.lookup.0)
 
 -- the function that runs stands in the program
 stands : (c : goal.After-len) → Stands c.args.program.now c.loop-code.code.function c.in-Some.function.now
