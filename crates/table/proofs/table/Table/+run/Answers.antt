@@ -10,23 +10,23 @@ returns-in-Writes g t c = record { ends = ran_write (sym c.in-Writes.ensures) c.
 
 -- ── a NEW ──
 
-pub returns-in-err-begun : goal.returns-in-err-begun
-returns-in-err-begun g t c =
-    let b = c.in-err-begun.ensures in
-    record { ends = ends_over _ _ _ _ _ c.from-residual.result c.from-residual.ensures.0 (none_made (sym c.in-Makes.ensures) b.begins); inputs = b.inputs; sound = b.sound; same = b.same }
+pub returns-in_err-begun-in-Makes : goal.returns-in_err-begun-in-Makes
+returns-in_err-begun-in-Makes g t c =
+    let b = c.in_err-begun-in-Makes.ensures in
+    record { ends = ends_over _ _ _ _ _ c.from_residual.result c.from_residual.ensures.0 (none_made (sym c.in-Makes.ensures) b.begins); inputs = b.inputs; sound = b.sound; same = b.same }
 
 pub run-requires : goal.run-requires
 run-requires g t c κs within =
-    let b = c.in-ok-begun.ensures in
+    let b = c.in_ok-begun-in-Makes.ensures in
     let h = begun_falls b.begins in
     (omega (arith, c.decreases, h), (within, (b.sound, begun_open c.requires.room b.begins b.same)))
 
-pub returns-in-err-wrote : goal.returns-in-err-wrote
-returns-in-err-wrote g t c =
-    let b = c.in-ok-begun.ensures in
-    let r = c.in-err-wrote.ensures in
+pub returns-in_err-wrote-in-Makes : goal.returns-in_err-wrote-in-Makes
+returns-in_err-wrote-in-Makes g t c =
+    let b = c.in_ok-begun-in-Makes.ensures in
+    let r = c.in_err-wrote-in-Makes.ensures in
     record {
-      ends = ends_over _ _ _ _ _ c.from-residual-in-err-wrote.result c.from-residual-in-err-wrote.ensures.0
+      ends = ends_over _ _ _ _ _ c.from_residual-in_err-wrote-in-Makes.result c.from_residual-in_err-wrote-in-Makes.ensures.0
           (over_inside_new (sym c.in-Makes.ensures) b.begins (c.enter-inner.ensures.code (viewed c.args.program.now)) r.ends);
       inputs = same_trans b.inputs r.inputs;
       sound = r.sound;
@@ -35,22 +35,22 @@ returns-in-err-wrote g t c =
 
 pub finish-end-requires : goal.finish-end-requires
 finish-end-requires g t c =
-    let b = c.in-ok-begun.ensures in
-    let r = c.in-ok-wrote.ensures in
+    let b = c.in_ok-begun-in-Makes.ensures in
+    let r = c.in_ok-wrote-in-Makes.ensures in
     record { sound = r.sound; ending = may_end c.requires.room b.begins new_there r.ends (r.same ∙ b.same) }
 
 pub run-requires-in-Makes : goal.run-requires-in-Makes
 run-requires-in-Makes g t c κs within =
-    let b = c.in-ok-begun.ensures in
-    let r = c.in-ok-wrote.ensures in
+    let b = c.in_ok-begun-in-Makes.ensures in
+    let r = c.in_ok-wrote-in-Makes.ensures in
     let z = c.finish-end.ensures in
     let h = ended_falls b.begins r.ends z.ended in
     (omega (arith, c.decreases, h), (within, (z.sound, may_go_on c.requires.room b.begins r.ends z.ended (z.same ∙ r.same ∙ b.same))))
 
-pub returns-in-ok-wrote : goal.returns-in-ok-wrote
-returns-in-ok-wrote g t c =
-    let b = c.in-ok-begun.ensures in
-    let r = c.in-ok-wrote.ensures in
+pub returns-in_ok-wrote-in-Makes : goal.returns-in_ok-wrote-in-Makes
+returns-in_ok-wrote-in-Makes g t c =
+    let b = c.in_ok-begun-in-Makes.ensures in
+    let r = c.in_ok-wrote-in-Makes.ensures in
     let z = c.finish-end.ensures in
     let w = c.run-in-Makes.ensures in
     record {
@@ -62,23 +62,23 @@ returns-in-ok-wrote g t c =
 
 -- ── a read ──
 
-pub returns-in-err-begun-2 : goal.returns-in-err-begun-2
-returns-in-err-begun-2 g t c =
-    let b = c.in-err-begun-2.ensures in
-    record { ends = ends_over _ _ _ _ _ c.from-residual-in-err-begun-2.result c.from-residual-in-err-begun-2.ensures.0 (none_read (sym c.in-Reads.ensures) b.begins); inputs = b.inputs; sound = b.sound; same = b.same }
+pub returns-in_err-begun-in-Reads : goal.returns-in_err-begun-in-Reads
+returns-in_err-begun-in-Reads g t c =
+    let b = c.in_err-begun-in-Reads.ensures in
+    record { ends = ends_over _ _ _ _ _ c.from_residual-in_err-begun-in-Reads.result c.from_residual-in_err-begun-in-Reads.ensures.0 (none_read (sym c.in-Reads.ensures) b.begins); inputs = b.inputs; sound = b.sound; same = b.same }
 
 pub run-requires-in-Reads : goal.run-requires-in-Reads
 run-requires-in-Reads g t c κs within =
-    let b = c.in-ok-begun-2.ensures in
+    let b = c.in_ok-begun-in-Reads.ensures in
     let h = begun_falls b.begins in
     (omega (arith, c.decreases, h), (within, (b.sound, begun_open c.requires.room b.begins b.same)))
 
-pub returns-in-err-wrote-2 : goal.returns-in-err-wrote-2
-returns-in-err-wrote-2 g t c =
-    let b = c.in-ok-begun-2.ensures in
-    let r = c.in-err-wrote-2.ensures in
+pub returns-in_err-wrote-in-Reads : goal.returns-in_err-wrote-in-Reads
+returns-in_err-wrote-in-Reads g t c =
+    let b = c.in_ok-begun-in-Reads.ensures in
+    let r = c.in_err-wrote-in-Reads.ensures in
     record {
-      ends = ends_over _ _ _ _ _ c.from-residual-in-err-wrote-2.result c.from-residual-in-err-wrote-2.ensures.0
+      ends = ends_over _ _ _ _ _ c.from_residual-in_err-wrote-in-Reads.result c.from_residual-in_err-wrote-in-Reads.ensures.0
           (over_inside_read (sym c.in-Reads.ensures) c.content-taken.ensures b.begins (c.enter-entered.ensures.code (viewed c.args.program.now)) r.ends);
       inputs = same_trans b.inputs r.inputs;
       sound = r.sound;
@@ -87,14 +87,14 @@ returns-in-err-wrote-2 g t c =
 
 pub finish-end-requires-in-Reads : goal.finish-end-requires-in-Reads
 finish-end-requires-in-Reads g t c =
-    let b = c.in-ok-begun-2.ensures in
-    let r = c.in-ok-wrote-2.ensures in
+    let b = c.in_ok-begun-in-Reads.ensures in
+    let r = c.in_ok-wrote-in-Reads.ensures in
     record { sound = r.sound; ending = may_end c.requires.room b.begins read_there r.ends (r.same ∙ b.same) }
 
-pub returns-in-ok-wrote-2 : goal.returns-in-ok-wrote-2
-returns-in-ok-wrote-2 g t c =
-    let b = c.in-ok-begun-2.ensures in
-    let r = c.in-ok-wrote-2.ensures in
+pub returns-in_ok-wrote-in-Reads : goal.returns-in_ok-wrote-in-Reads
+returns-in_ok-wrote-in-Reads g t c =
+    let b = c.in_ok-begun-in-Reads.ensures in
+    let r = c.in_ok-wrote-in-Reads.ensures in
     let z = c.finish-end-in-Reads.ensures in
     record {
       ends = ran_read (sym c.in-Reads.ensures) c.content-taken.ensures b.begins (c.enter-entered.ensures.code (viewed c.args.program.now)) r.ends z.ended c.requires.room.member (g.O.OrderList.lawful _ z.sound).apart;

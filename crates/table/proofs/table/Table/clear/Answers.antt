@@ -14,8 +14,8 @@ returns g c =
           in_order = l.kept;
           standing = standing_in l.only (omega arith) (vacant c.args.limit.most (record {
             blank = λ q. ap (λ (r : Record). r.entry) (c.blanks-self.ensures.blank q);
-            spares = c.places-for-self.ensures;
-            spare = c.count-up-self.ensures.each;
+            spares = c.places_for-self.ensures;
+            spare = c.count_up-self.ensures.each;
             rings = c.new-self.ensures;
           }));
         };

@@ -4,7 +4,7 @@ use Rattle.table.proofs.Vacancy.{vacant}
 use Rattle.table.proofs.table.Table.new.Goals as goal
 
 pub returns : goal.returns
-returns c = let e = c.places-for.ensures in record {
+returns c = let e = c.places_for.ensures in record {
   vacant = vacant c.args.limit.most (record {
     blank = λ q. ap (λ (r : Record). r.entry) (c.blanks.ensures.blank q);
     spares = e;

@@ -2,8 +2,8 @@ use Rattle.std.proofs.Common.{◌∙◌}
 use Rattle.table.proofs.Mains.{may_run, ran_anew, exceeded}
 use Rattle.table.proofs.table.Table.run_anew.Goals as goal
 
-pub run-main-requires : goal.run-main-requires
-run-main-requires g c =
+pub run_main-requires : goal.run_main-requires
+run_main-requires g c =
     let h = c.clear.ensures.cleared in
     record { sound = h.holding.in_order; room = may_run h.holding.standing h.room h.same }
 

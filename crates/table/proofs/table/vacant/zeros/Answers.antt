@@ -6,8 +6,8 @@ use Rattle.table.proofs.table.vacant.zeros.Goals as goal
 pub loop-k-init : goal.loop-k-init
 loop-k-init c = (refl, λ j. all_alike 256 j Empty ∙ none_zero j)
 
-pub offset-bounds-inputs-k : goal.offset-bounds-inputs-k
-offset-bounds-inputs-k c = let h = numbers_few c.args.program.now in search rules
+pub offset_bounds-inputs-k : goal.offset_bounds-inputs-k
+offset_bounds-inputs-k c = let h = numbers_few c.args.program.now in search rules
 
 pub bounds-inputs-k : goal.bounds-inputs-k
 bounds-inputs-k c = let h = numbers_few c.args.program.now in omega arith
