@@ -11,7 +11,7 @@ use Rattle.history.specs.History.{ByTurns, AtSettle, OldAgainstNew}
 use Rattle.history.proofs.Steps.{Good, Traced, HasTrace, settles, settles_book, to_settle}
 use Rattle.history.proofs.Fitting.{Fits, FitBook, first_fit, from_fit, turned_fits}
 use Rattle.history.proofs.Whole.{history_book, history_good, fresh_good, whole_beside, whole_turns, whole_anew}
-use Rattle.trace.proofs.By-value.{counts_of_the_plain_run}
+use Rattle.trace.proofs.ByValue.{counts_of_the_plain_run}
 use Rattle.history.proofs.Exists.{some_new}
 use Rattle.trace.proofs.Plain.{none_so_small}
 
