@@ -11,7 +11,7 @@ returns g c =
     let s = k.same in
     let cap = c.capacity.ensures in
     let e = l.1 in
-    let h = leb-true (4 * c.in-Some.allowed.value + 1) c.capacity.result (sym c.if-not-has-room.ensures) in
+    let h = leb-true (4 * c.in-Some.allowed.value + 1) c.capacity.result (sym c.if-not-has_room.ensures) in
     let w : 4 * c.args.limit + 1 ≤ g.O.OrderList.size c.args.list = omega arith in (
       not_refused (g.O.OrderList.size c.args.list) c.args.limit l.0 w,
       c.first.ensures,
