@@ -4,7 +4,7 @@ use Rattle.std.proofs.lemmas.Bool.Decides.{eqb_tells}
 use Rattle.std.proofs.lemmas.Bool.{cases_eq, lt-ltb, le-ltb}
 use Rattle.order_list.specs.Order.{has, insert_after, Inserted}
 use Rattle.chained_list.specs.Tags.{among, start, loose_level, spread_tag, Tagged, tags_of, retag, tag_at, behind_tag, spread, put_behind, halfway, tags_after_insert}
-use Rattle.chained_list.specs.Chain.{order, chain, Over, Rising, Strung, Spare, Ranging, Holds, Sound, Room, Spliced, next_of, tag_of, along, mark, tags, tagged}
+use Rattle.chained_list.specs.Chain.{order, chain, Over, Rising, Strung, Spare, Ranging, Holds, Sound, Room, Spliced, next_of, tag_of, mark, tags, tagged}
 use Rattle.chained_list.specs.Spreading.{LooseBlock, SpreadOut, RoomMade}
 use Rattle.chained_list.specs.declared.member.Member.{Member}
 use Rattle.order_list.proofs.Lists.{has_here, has_there, has_none, has_tail, apart_from, has_insert, based_has}

@@ -12,7 +12,7 @@ use borrow.Author.Tests.{eq-eqb}
 use Rattle.trace.specs.Run.{initial, plain_run, Stands}
 use Rattle.program.specs.declared.value.InputContent.{InputContent}
 use Rattle.trace.specs.Trace.{Trace, size, places, Distinct}
-use Rattle.trace.specs.Listing.{lines, Line, canonical, rank, listing, result_of}
+use Rattle.trace.specs.Listing.{lines, Line, canonical, rank, result_of}
 use Rattle.trace.specs.Turns.{Turns}
 use Rattle.trace.proofs.Renamed.{size_renamed}
 use Rattle.trace.proofs.Counted.{turns_count_alike}
@@ -21,7 +21,7 @@ use Rattle.history.specs.Book.{Book, State, rests, sort_of, unless, same_sort, b
 use Rattle.history.specs.Sheet.{Sheet, fresh, Does, RefusedOr, Serves, Settled, shown_result, shown_lines, standing_count, no_line, pass_of}
 use Rattle.history.specs.History.{History, untouched, then, a_pass, renumbered, NewBeside, AllTaken, HoldsPlain, Reading, of_result, of_line, reading, NoSettle, OldAsNew, ByTurns, RunAnew}
 use Rattle.trace.proofs.ReadOut.{read_out}
-use Rattle.history.proofs.Steps.{does_book, does_made, does_good, quiet, Same, Good, Traced, settles, settled_book, well_plain}
+use Rattle.history.proofs.Steps.{does_book, does_made, does_good, quiet, Same, Good, Traced, settled_book, well_plain}
 use Rattle.history.proofs.Fitting.{Fits, NoneRefused, open_with, takes_settle, fills_all}
 
 -- ── whole histories ──

@@ -1,5 +1,5 @@
 -- A journal is cut at its bytes 10.
-use Rattle.std.proofs.Common.{◌≡◌, ℕ, zero, suc, ◌+◌, ◌-◌, ◌<◌, ◌≤◌, Bool, true, false, cond, eqb, List, [], ◌∷◌, ◌++◌, length, take, drop, Some, None, Decides, sym, refl, ap, ◌∙◌, subst, ⊎_elim, arith, length-append, length-drop, rules}
+use Rattle.std.proofs.Common.{◌≡◌, ℕ, zero, suc, ◌+◌, ◌-◌, ◌<◌, ◌≤◌, Bool, true, false, cond, List, [], ◌∷◌, ◌++◌, length, take, drop, Some, None, Decides, sym, refl, ap, ◌∙◌, subst, ⊎_elim, arith, length-append, length-drop, rules}
 use Rattle.std.proofs.lemmas.Slice.Eq.{bytes_eq-Decides}
 use Rattle.std.proofs.lemmas.List.{append-nil, append_assoc, take_rest, take_at}
 use Rattle.std.proofs.lemmas.Bool.Decides.{eqb_tells}

@@ -1,5 +1,5 @@
 -- What is answered to a text.
-use Rattle.std.specs.Prelude.{◌≡◌, ℕ, List, [], ◌∷◌, ◌++◌, length, codes, decimal}
+use Rattle.std.specs.Prelude.{◌≡◌, ℕ, List, ◌++◌, length, codes, decimal}
 use Rattle.kinds.specs.declared.fault.KindFault.{KindFault}
 use Rattle.kinds.specs.declared.fault.Refusal.{Refusal}
 use Rattle.kinds.specs.declared.fault.Refusal.TheVariants.{Fault, Memory}

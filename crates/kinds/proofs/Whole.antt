@@ -1,5 +1,5 @@
 -- The fault that is told is the least of all that the text has, and none is told exactly when it has none.
-use Rattle.std.proofs.Common.{◌≡◌, ℕ, zero, suc, ◌+◌, ◌-◌, ◌/◌, ◌%◌, ◌<◌, ◌≤◌, Bool, true, false, cond, ◌&&◌, eqb, leb, ◌⊎◌, List, [], ◌∷◌, ◌++◌, length, get_or, drop, is_some, Some, None, Ok, Err, Option, Result, sym, refl, ap, ◌∙◌, subst, inl, inr, ⊎_elim, arith}
+use Rattle.std.proofs.Common.{◌≡◌, ℕ, zero, suc, ◌+◌, ◌/◌, ◌<◌, ◌≤◌, Bool, true, false, cond, ◌&&◌, leb, ◌⊎◌, List, length, get_or, drop, is_some, Some, None, Ok, Err, Option, sym, refl, subst, inl, inr, ⊎_elim, arith}
 use Rattle.std.proofs.lemmas.Bool.{leb-true, leb-false}
 use Rattle.text.specs.declared.line.Word.{Word}
 use Rattle.text.specs.declared.line.LineFault.{LineFault}
@@ -8,14 +8,12 @@ use Rattle.shape.specs.declared.fault.ShapeFault.{ShapeFault}
 use Rattle.shape.specs.declared.fault.ShapeFault.TheVariants as e
 use Rattle.kinds.specs.declared.fault.KindFault.{KindFault}
 use Rattle.kinds.specs.declared.fault.KindFault.TheVariants as k
-use Rattle.text.specs.First.{first}
-use Rattle.kinds.specs.Faults.{number_of, layer_of, line_at}
 use Rattle.text.specs.Numbers.{fields_stand, numbers_in}
 use Rattle.text.specs.Lines.{Told as Line-told, word_of, right_length, worded, Raw, lines_in, same, line_rules, line_fault, text_fault, fault_in, lines_of}
 use Rattle.shape.specs.Shapes.{after, start, shape_rules, shape_fault_of, over_lines}
 use Rattle.kinds.specs.Kinds.{known_after, kind_rules, unknown, heads_of, kind_fault_of, over_shape, fault_of}
 use Rattle.kinds.specs.Laws.{Breaks, keeps_line, keeps_shape, keeps_kinds, HasFault, of_length, of_line, of_shape, of_kinds, NotAfter, Least, Faultless}
-use Rattle.kinds.proofs.Least.{judge, Told, told, clean}
+use Rattle.kinds.proofs.Least.{judge, told, clean}
 
 abbrev line_fault_by : ℕ → ℕ → LineFault
 line_fault_by zero n = f.Length n

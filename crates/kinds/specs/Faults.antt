@@ -1,5 +1,5 @@
 -- The number, the layer and the line of every fault of a text: the one definition for all cases.
-use Rattle.std.specs.Prelude.{◌≡◌, ℕ}
+use Rattle.std.specs.Prelude.{ℕ}
 use Rattle.text.specs.declared.line.LineFault.TheVariants as f
 use Rattle.shape.specs.declared.fault.ShapeFault.TheVariants as s
 use Rattle.kinds.specs.declared.fault.KindFault.{KindFault}

@@ -1,5 +1,5 @@
 -- All the faults that a text has, rule by rule; and which of them is told.
-use Rattle.std.specs.Prelude.{◌≡◌, ℕ, zero, suc, ◌+◌, ◌-◌, ◌/◌, ◌%◌, ◌<◌, ◌≤◌, Bool, true, false, cond, ◌&&◌, ◌⊎◌, List, [], ◌∷◌, ◌++◌, length, drop, ℤ, is_some, Ok, Err, fold, Result, slice_index}
+use Rattle.std.specs.Prelude.{◌≡◌, ℕ, zero, suc, ◌+◌, ◌/◌, ◌<◌, ◌≤◌, Bool, true, false, ◌&&◌, ◌⊎◌, List, ◌∷◌, ◌++◌, length, drop, ℤ, is_some, Ok, Err, fold, Result, slice_index}
 use Rattle.text.specs.First.{none_left}
 use Rattle.text.specs.Numbers.{fields_stand}
 use Rattle.text.specs.Lines.{word_of, right_length, Raw, lines_in, same, Said, lines_of}

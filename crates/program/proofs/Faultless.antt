@@ -1,13 +1,11 @@
 -- A text without a fault: its lines are formed and fit their columns.
-use Rattle.std.proofs.Common.{◌≡◌, ℕ, Bool, true, false, cond, eqb, List, [], ◌∷◌, map, get_or, ℤ, pos, Some, None, Option, sym, refl, ap, ◌∙◌, subst, arith}
+use Rattle.std.proofs.Common.{◌≡◌, ℕ, Bool, true, false, cond, eqb, List, [], ◌∷◌, map, get_or, ℤ, pos, None, sym, refl, ap, ◌∙◌, subst, arith}
 use Rattle.std.specs.List.{flat_map}
 use Rattle.text.specs.First.{none_left}
 use Rattle.text.specs.Lines.{Said, Raw, lines_in, longer, reading, lines_of, text_fault, standing}
 use Rattle.text.proofs.Cuts.{lines_standing}
-use Rattle.shape.specs.declared.fault.ShapeFault.{ShapeFault}
 use Rattle.shape.specs.declared.standing.Due.TheVariants as d
 use Rattle.shape.specs.Shapes.{start, shape_fault, shape_fault_of}
-use Rattle.kinds.specs.declared.fault.KindFault.{KindFault}
 use Rattle.kinds.specs.Kinds.{fault_of, kind_fault_of, over_shape, heads_of, unknown}
 use Rattle.kinds.proofs.Over.{shaped, none_over}
 use Rattle.program.specs.declared.function.Function.{Function}

@@ -1,27 +1,26 @@
 -- Lines without a fault are formed: in the right order, each with fields that can be read back.
-use Rattle.std.proofs.Common.{◌≡◌, ℕ, zero, suc, ◌+◌, ◌<◌, ◌≤◌, Bool, true, false, cond, ◌&&◌, eqb, ltb, leb, List, [], ◌∷◌, map, length, get_or, drop, ℤ, pos, negsuc, is_some, Some, None, Option, sym, refl, ap, ◌∙◌, subst, ⊎_elim, arith}
+use Rattle.std.proofs.Common.{◌≡◌, ℕ, ◌+◌, ◌≤◌, Bool, true, false, cond, ◌&&◌, eqb, ltb, leb, List, [], ◌∷◌, map, length, get_or, drop, ℤ, pos, negsuc, is_some, Some, None, Option, sym, refl, ap, ◌∙◌, subst, ⊎_elim, arith}
 use Rattle.std.proofs.lemmas.Bool.{and_parts, leb-true}
 use Rattle.std.proofs.lemmas.Bool.Decides.{eqb_tells}
 use Rattle.text.specs.declared.fields.Kind.{Kind}
 use Rattle.text.specs.declared.fields.Kind.TheVariants as k
 use Rattle.text.specs.declared.line.Word.{Word}
 use Rattle.text.specs.declared.line.Word.TheVariants as w
-use Rattle.text.specs.First.{first, or_else, none_left}
+use Rattle.text.specs.First.{first}
 use Rattle.text.specs.Lines.{Said}
 use Rattle.text.specs.Numbers.{whole_of, kind_of}
 use Rattle.text.proofs.Passes.{or_none}
 use Rattle.shape.specs.declared.standing.Part.{Part}
 use Rattle.shape.specs.declared.standing.Part.TheVariants as p
-use Rattle.shape.specs.declared.standing.Due.{Due}
 use Rattle.shape.specs.declared.standing.Due.TheVariants as d
 use Rattle.shape.specs.declared.standing.Standing.{Standing}
 use Rattle.shape.specs.Parts.{part_of, fits, is_tail, placed, fewest, most, counted, result_kind, all_kinds, inputs_fit}
 use Rattle.shape.specs.Shapes.{ranged, after, behind_part, shape_rules}
 use Rattle.kinds.specs.declared.rules.Names.TheVariants as m
-use Rattle.kinds.specs.Named.{names, all_there}
+use Rattle.kinds.specs.Named.{all_there}
 use Rattle.kinds.specs.Kinds.{Known, agrees, known_after, kind_rules, kinds_in, or_number}
-use Rattle.program.specs.Programs.{wholes, kind_number}
-use Rattle.program.specs.Formed.{Held, Whole, entries, due_after, Formed}
+use Rattle.program.specs.Programs.{kind_number}
+use Rattle.program.specs.Formed.{Held, Whole, due_after, Formed}
 use Rattle.program.proofs.Entries.{named_whole}
 
 pub all_three : {F : Type 0} (a b c : Bool) (f g h : F) → cond a (cond b (cond c None (Some f)) (Some g)) (Some h) ≡ None → (a ≡ true) × (b ≡ true) × (c ≡ true)

@@ -1,5 +1,5 @@
 -- A text says one program.
-use Rattle.std.proofs.Common.{◌≡◌, ℕ, List, None, vec_items, sym, refl, ap, ◌∙◌, subst}
+use Rattle.std.proofs.Common.{◌≡◌, ℕ, List, None, vec_items, sym, ap, ◌∙◌}
 use Rattle.text.specs.Lines.{lines_of}
 use Rattle.text.specs.Rendering.{rendered}
 use Rattle.text.proofs.Rendered.{rendering_of, rendered_once}

@@ -7,10 +7,9 @@ use Rattle.text.specs.declared.fields.Kind.{Kind}
 use Rattle.text.specs.declared.fields.Kind.TheVariants as k
 use Rattle.text.specs.declared.line.Word.{Word}
 use Rattle.text.specs.declared.line.Word.TheVariants as w
-use Rattle.text.specs.First.{first, or_else, none_left}
+use Rattle.text.specs.First.{first, none_left}
 use Rattle.text.specs.Lines.{Said}
 use Rattle.text.specs.Numbers.{kind_of}
-use Rattle.shape.specs.declared.fault.ShapeFault.{ShapeFault}
 use Rattle.shape.specs.declared.fault.ShapeFault.TheVariants as g
 use Rattle.shape.specs.declared.standing.Part.{Part}
 use Rattle.shape.specs.declared.standing.Part.TheVariants as p
@@ -18,10 +17,9 @@ use Rattle.shape.specs.declared.standing.Due.TheVariants as d
 use Rattle.shape.specs.declared.standing.Standing.{Standing}
 use Rattle.shape.specs.Parts.{part_of, placed, counted, result_kind, all_kinds}
 use Rattle.shape.specs.Shapes.{ranged, after, behind_part, shape_rules, shape_fault_of, start}
-use Rattle.kinds.specs.declared.fault.KindFault.{KindFault}
 use Rattle.kinds.specs.declared.fault.KindFault.TheVariants as f
 use Rattle.kinds.specs.Named.{all_there}
-use Rattle.kinds.specs.Kinds.{head_line, heads_of, same_kind, kind_in, is_kind, starts, takes, accepts, entered, agrees, Known, or_number, kinds_in, known_after, kind_rules, unknown, kind_fault_of, over_shape}
+use Rattle.kinds.specs.Kinds.{head_line, heads_of, same_kind, kind_in, is_kind, starts, takes, accepts, entered, agrees, Known, or_number, kinds_in, known_after, kind_rules, unknown, kind_fault_of}
 use Rattle.program.specs.declared.arith.Op.{Op}
 use Rattle.program.specs.declared.arith.Op.TheVariants as o
 use Rattle.program.specs.declared.program.Program.{Program}

@@ -1,5 +1,5 @@
 -- The six operations: the exact result, or the end of the range of 32-bit numbers that it passes.
-use Rattle.std.specs.Prelude.{◌≡◌, zero, suc, ℤ, pos, negsuc, ◌+ℤ◌, ◌-ℤ◌, ◌*ℤ◌, int_div}
+use Rattle.std.specs.Prelude.{zero, suc, ℤ, pos, negsuc, ◌+ℤ◌, ◌-ℤ◌, ◌*ℤ◌, int_div}
 use Rattle.std.specs.Int.{saturate_to_bits, int_min, int_max}
 use Rattle.program.specs.declared.arith.Op.{Op}
 use Rattle.program.specs.declared.arith.Op.TheVariants.{Add, Sub, Mul, Div, Min, Max}

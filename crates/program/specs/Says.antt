@@ -1,5 +1,5 @@
 -- What a program says.
-use Rattle.std.specs.Prelude.{◌≡◌, ℕ, List, vec_items}
+use Rattle.std.specs.Prelude.{ℕ, List, vec_items}
 use Rattle.text.specs.Lines.{Said}
 use Rattle.text.specs.Rendering.{rendered}
 use Rattle.program.specs.declared.program.Program.{Program}

@@ -1,5 +1,5 @@
 -- The rules of layer 2: where a line stands, how many fields it has, and its ranges and limits.
-use Rattle.std.specs.Prelude.{◌≡◌, ℕ, ◌+◌, ◌-◌, Bool, true, false, cond, ◌&&◌, List, [], ◌∷◌, length, ℤ, pos, Some, None, Option, nat_lt, slice_index_or}
+use Rattle.std.specs.Prelude.{ℕ, ◌+◌, ◌-◌, Bool, true, false, cond, ◌&&◌, List, length, ℤ, pos, Some, None, Option, nat_lt, slice_index_or}
 use Rattle.text.specs.declared.line.LineFault.{LineFault}
 use Rattle.text.specs.First.{first}
 use Rattle.text.specs.Lines.{Said, lines_of, text_fault}

@@ -1,23 +1,21 @@
 -- What each call does, from what its parts say.
-use Rattle.std.proofs.Common.{◌≡◌, ℕ, zero, suc, ◌+◌, ◌<◌, ◌≤◌, Bool, true, false, not, ◌&&◌, ltb, ◌⊎◌, List, [], ◌∷◌, length, get_or, take, set, sym, refl, ap, ◌∙◌, subst, ap₂, inl, inr, arith, get_or-set_other}
+use Rattle.std.proofs.Common.{◌≡◌, ℕ, zero, suc, ◌<◌, Bool, true, ◌&&◌, ltb, ◌⊎◌, List, [], ◌∷◌, get_or, take, set, sym, refl, ap, ◌∙◌, subst, ap₂, inl, inr, arith, get_or-set_other}
 use mathlib.Core.Option.{Option, some, none}
 use Rattle.std.proofs.lemmas.Bool.{cases_Bool, ltb-true}
-use Rattle.program.specs.View.{View, viewed}
 use Rattle.program.specs.declared.value.InputContent.{InputContent}
 use Rattle.program.specs.declared.value.InputContent.TheVariants.{Empty, Number, Cell}
 use Rattle.trace.specs.Trace.{Trace}
-use Rattle.history.specs.Calls.{settled, unsettled, resting, opened, Make, OPEN, POST, WITHDRAW, Refusal, wrong_pass, no_such_input, gives}
+use Rattle.history.specs.Calls.{unsettled, resting, opened, Make, OPEN, POST, WITHDRAW, Refusal, wrong_pass, no_such_input, gives}
 use Rattle.history.specs.Book as book
 use Rattle.history.specs.Book.{Book, rests, open_since, refusal, unless, unfit, opening, withdrawing}
 use Rattle.history.specs.History.{a_pass}
 use Rattle.order_list.specs.declared.list.OrderList.{Ghosts}
 use Rattle.table.specs.declared.table.Table.{Table}
 use Rattle.table.specs.Anew.{Holding, Stays}
-use Rattle.table.proofs.Lists.{differ}
 use Rattle.sheet.specs.declared.sheet.State.{State}
-use Rattle.sheet.specs.declared.sheet.State.TheVariants.{Unsettled, Settled, Open}
+use Rattle.sheet.specs.declared.sheet.State.TheVariants.{Unsettled, Open}
 use Rattle.sheet.specs.declared.sheet.Sheet.{Sheet}
-use Rattle.sheet.specs.Shows.{count_of_inputs, made_of, state_of, kept_book, held, takes_pass, Traced, RestEmpty, Shows}
+use Rattle.sheet.specs.Shows.{count_of_inputs, made_of, state_of, kept_book, takes_pass, Traced, RestEmpty, Shows}
 use Rattle.sheet.specs.Refusals.{made_with}
 use Rattle.sheet.specs.Answers.{Serves}
 use Rattle.sheet.proofs.Serving.{model, serves_from, served_call, bears_takes, takes_both}

@@ -1,6 +1,5 @@
 -- A sheet just made.
-use Rattle.std.proofs.Common.{◌≡◌, ℕ, ◌+◌, ◌-◌, ◌*◌, ◌<◌, ◌≤◌, true, cond, ltb, List, [], ◌∷◌, ◌++◌, length, get_or, take, replicate, pos, None, sym, refl, ◌∙◌, subst, ap₂, inl, inr, arith, length-append, length-take}
-use mathlib.Core.Option.{none}
+use Rattle.std.proofs.Common.{◌≡◌, ℕ, ◌+◌, ◌-◌, ◌*◌, ◌≤◌, true, cond, ltb, List, [], ◌∷◌, ◌++◌, length, get_or, take, replicate, pos, None, sym, refl, ◌∙◌, subst, ap₂, inl, inr, arith, length-append, length-take}
 use lib.ListN.{length-replicate, get_or-replicate}
 use Rattle.std.proofs.lemmas.List.{same_lists, get_or_default, get_or_append_left, get_or-append_right, get_or-take}
 use Rattle.std.proofs.lemmas.Bool.{cases_lt, lt-ltb, le-ltb, le-leb}
@@ -15,11 +14,10 @@ use Rattle.history.specs.Sheet.{fresh}
 use Rattle.order_list.specs.declared.list.OrderList.{Ghosts}
 use Rattle.table.specs.declared.limit.Limit.{Limit}
 use Rattle.table.specs.declared.table.Table.{Table}
-use Rattle.table.specs.Anew.{Holding, Vacant, Zeros}
+use Rattle.table.specs.Anew.{Vacant, Zeros}
 use Rattle.table.proofs.Vacancy.{standing_in}
 use Rattle.table.proofs.Zeroed.{all_alike}
 use Rattle.sheet.specs.declared.sheet.State.TheVariants.{Unsettled}
-use Rattle.sheet.specs.declared.sheet.Sheet.{Sheet}
 use Rattle.sheet.specs.Shows.{count_of_inputs, RestEmpty, Shows}
 use Rattle.sheet.specs.Making.{sheet_refusal}
 use Rattle.table.specs.Limits.{allowed}

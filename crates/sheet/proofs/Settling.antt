@@ -1,5 +1,5 @@
 -- What a settle does, from what the run anew says.
-use Rattle.std.proofs.Common.{◌≡◌, ℕ, ◌<◌, ◌≤◌, Bool, true, ◌&&◌, ◌⊎◌, List, [], length, get_or, take, sym, refl, ap, ◌∙◌, subst, ap₂, inl, inr, arith, length-take, get_or-take}
+use Rattle.std.proofs.Common.{◌≡◌, ℕ, ◌≤◌, Bool, true, ◌&&◌, List, [], get_or, take, sym, refl, ap, ◌∙◌, subst, ap₂, inl, inr, arith, length-take, get_or-take}
 use mathlib.Core.Option.{Option, some, none}
 use Rattle.std.proofs.lemmas.List.{get_or_past}
 use Rattle.std.proofs.lemmas.Bool.{cases_lt}
@@ -11,8 +11,8 @@ use Rattle.trace.specs.Code.{main}
 use Rattle.trace.specs.Run.{content_of_input, Kept, initial, Stands}
 use Rattle.trace.specs.Over.{Over, BeginsMore}
 use Rattle.trace.proofs.Over.{too_large_means}
-use Rattle.history.specs.Calls.{settled, unsettled, resting, opened, Call, SETTLE, Refusal, Answer, done, too_large, wrong_pass}
-use Rattle.history.specs.Book.{Book, rests, refusal, unless, with_state}
+use Rattle.history.specs.Calls.{settled, unsettled, resting, opened, SETTLE, Refusal, Answer, done, too_large, wrong_pass}
+use Rattle.history.specs.Book.{Book, refusal, unless}
 use Rattle.history.specs.Sheet as history
 use Rattle.history.specs.Sheet.{Does, SettledSo, FoundTooLarge}
 use Rattle.history.specs.History.{a_pass}
@@ -20,13 +20,13 @@ use Rattle.history.proofs.Whole.{too_large_exactly, holds_plain}
 use Rattle.order_list.specs.declared.list.OrderList.{Ghosts}
 use Rattle.table.specs.declared.table.Table.{Table}
 use Rattle.table.specs.Changes.{SameInputs}
-use Rattle.table.specs.Anew.{nothing, Holding, RanAnew, Exceeded}
+use Rattle.table.specs.Anew.{RanAnew, Exceeded}
 use Rattle.table.proofs.Runs.{stores}
 use Rattle.sheet.specs.declared.sheet.State.{State}
 use Rattle.sheet.specs.declared.sheet.State.TheVariants.{Unsettled, Settled, Open}
 use Rattle.sheet.specs.declared.sheet.Sheet.{Sheet}
-use Rattle.sheet.specs.Shows.{Model, count_of_inputs, made_of, state_of, kept_book, takes_pass, RestEmpty, Shows}
-use Rattle.sheet.specs.Answers.{Done, Serves, Plainly, Settles}
+use Rattle.sheet.specs.Shows.{Model, count_of_inputs, made_of, state_of, kept_book, takes_pass, RestEmpty}
+use Rattle.sheet.specs.Answers.{Serves, Plainly, Settles}
 use Rattle.sheet.proofs.Serving.{model, serves_from, served_call, bears_takes, takes_both}
 use Rattle.sheet.proofs.Calling.{no_trace, rest_same}
 

@@ -9,7 +9,6 @@ use Rattle.history.specs.Sheet.{Does}
 use Rattle.order_list.specs.declared.list.OrderList.{Ghosts}
 use Rattle.sheet.specs.declared.pass.OpenPass.{OpenPass}
 use Rattle.sheet.specs.declared.pass.UnsettledPass.{UnsettledPass}
-use Rattle.sheet.specs.declared.pass.SettledPass.{SettledPass}
 use Rattle.sheet.specs.declared.refusal.Refused.{Refused}
 use Rattle.sheet.specs.declared.settled.Mark.{Mark}
 use Rattle.sheet.specs.declared.settled.Mark.TheVariants.{ByTurns, Anew}

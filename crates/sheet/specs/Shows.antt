@@ -2,7 +2,7 @@
 use Rattle.std.specs.Prelude.{◌≡◌, ℕ, ◌+◌, ◌≤◌, Bool, true, false, ◌&&◌, List, [], take, ◌==◌, slice_index_or}
 use Rattle.std.proofs.Math.Option.{Option, some, none}
 use Rattle.program.specs.declared.program.Program.{Program}
-use Rattle.program.specs.View.{View, viewed}
+use Rattle.program.specs.View.{viewed}
 use Rattle.program.specs.declared.value.InputContent.{InputContent}
 use Rattle.program.specs.declared.value.InputContent.TheVariants.{Empty}
 use Rattle.trace.specs.Trace.{Trace, size}

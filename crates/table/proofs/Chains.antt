@@ -1,5 +1,5 @@
 -- Chains of numbers that are linked there and back.
-use Rattle.std.proofs.Common.{◌≡◌, ℕ, true, false, ◌⊎◌, List, [], ◌∷◌, sym, refl, ap, ◌∙◌, inl, inr, arith}
+use Rattle.std.proofs.Common.{◌≡◌, ℕ, true, false, ◌⊎◌, List, [], ◌∷◌, sym, refl, ap, ◌∙◌, inl, inr}
 use Rattle.std.proofs.lemmas.Bool.Decides.{eqb_tells}
 use Rattle.order_list.specs.Order.{has, Apart}
 use Rattle.order_list.proofs.Lists.{has_here, has_there, has_none, apart_from, has_tail}

@@ -1,10 +1,10 @@
 -- The steps of the run, as its code meets them.
-use Rattle.std.proofs.Common.{◌≡◌, ℕ, suc, ◌+◌, ◌*◌, ◌<◌, ◌≤◌, true, ◌≢◌, List, length, is_err, Ok, Err, Result, sym, ap, ◌∙◌, arith}
+use Rattle.std.proofs.Common.{◌≡◌, ℕ, ◌<◌, true, ◌≢◌, List, is_err, Ok, Err, Result, sym, ap, ◌∙◌, arith}
 use Rattle.program.specs.View.{View}
 use Rattle.program.specs.declared.value.Content.{Content}
 use Rattle.program.specs.declared.value.Content.TheVariants.{Empty}
 use Rattle.trace.specs.Code.{Code, next, makes, resume, enter}
-use Rattle.trace.specs.Trace.{places, Absent}
+use Rattle.trace.specs.Trace.{places}
 use Rattle.order_list.specs.Order.{Apart}
 use Rattle.code.specs.declared.args.Args.{Args}
 use Rattle.code.specs.Args.{listed}
@@ -19,7 +19,7 @@ use Rattle.table.specs.Standing.{at}
 use Rattle.table.specs.Ran.{Open, Ending, HasBegun, HasEnded, Ran, Exceeds, Ends}
 use Rattle.table.proofs.Lists.{moved_member, moved_length}
 use Rattle.table.proofs.Shapes.{numbers_length}
-use Rattle.table.proofs.Runs.{off, at_n, ran_new, over_behind_new}
+use Rattle.table.proofs.Runs.{off, ran_new, over_behind_new}
 
 -- a run that ends with an error is too large
 pub ends_over : {P : View} {c : Code} {a : Table} (d : ℕ) (b : Table) (xs ys : List ℕ) (cursor : ℕ) (r : Result Written TooLarge) → is_err r ≡ true → Exceeds P c a → Ends P c d a b xs ys cursor r

@@ -1,9 +1,9 @@
 -- Rings for all sources: none with a reader, and a reader put in.
-use Rattle.std.proofs.Common.{◌≡◌, ℕ, ◌+◌, ◌<◌, ◌≤◌, Bool, true, false, cond, eqb, ◌⊎◌, List, [], ◌∷◌, length, get_or, set, sym, refl, ap, ◌∙◌, subst, inl, inr, arith, length-set, get_or-set_other, get_or-set_same}
+use Rattle.std.proofs.Common.{◌≡◌, ℕ, ◌+◌, ◌<◌, true, false, cond, eqb, ◌⊎◌, List, [], ◌∷◌, length, get_or, set, sym, refl, ap, ◌∙◌, subst, inl, inr, arith, length-set, get_or-set_other, get_or-set_same}
 use Rattle.std.proofs.lemmas.Bool.Decides.{eqb_tells}
 use Rattle.std.proofs.lemmas.Bool.{cases_Bool, ne_eqb, eq-eqb}
-use Rattle.order_list.specs.Order.{has, Apart, Under}
-use Rattle.order_list.proofs.Lists.{has_here, has_there, apart_from, under_has}
+use Rattle.order_list.specs.Order.{has}
+use Rattle.order_list.proofs.Lists.{has_here, apart_from, under_has}
 use Rattle.table.specs.declared.readers.Readers.{Readers}
 use Rattle.table.specs.Rings.{next_of, previous_of, Chained, Linked, Rings, NoReader, Unlinked, joined, Joins}
 use Rattle.table.proofs.Chains.{has_or, chained_same, chained_put, next_in}

@@ -1,28 +1,26 @@
 -- A run of the whole program, and what it leaves.
-use Rattle.std.proofs.Common.{◌≡◌, ℕ, suc, ◌+◌, ◌-◌, ◌*◌, ◌<◌, ◌≤◌, List, [], ◌∷◌, ◌++◌, map, length, get_or, pos, sym, refl, ap, ◌∙◌, subst, ap₂, append_assoc, append-nil, arith, length-append}
-use Rattle.std.proofs.lemmas.List.{get_or_past}
-use Rattle.program.specs.View.{View, NIL, NEW}
+use Rattle.std.proofs.Common.{◌≡◌, ℕ, suc, ◌-◌, ◌≤◌, List, [], ◌∷◌, ◌++◌, map, length, get_or, sym, refl, ap, ◌∙◌, subst, ap₂, append_assoc, append-nil, arith, length-append}
+use Rattle.program.specs.View.{View, NIL}
 use Rattle.program.specs.declared.value.Content.{Content}
 use Rattle.program.specs.declared.value.Content.TheVariants.{Empty}
 use Rattle.program.specs.declared.value.InputContent.{InputContent}
 use Rattle.program.specs.declared.value.InputContent.TheVariants as input
 use Rattle.program.specs.declared.value.Value.{Value}
-use Rattle.program.specs.declared.value.Value.TheVariants as val
-use Rattle.trace.specs.Code.{Code, next, makes, writes, resume, enter, register, count_from, main}
-use Rattle.trace.specs.Trace.{Trace, size, Store}
+use Rattle.trace.specs.Code.{Code, next, makes, resume, enter, register, count_from, main}
+use Rattle.trace.specs.Trace.{size, Store}
 use Rattle.trace.specs.Run.{Kept, content_of_input, initial, Stands}
 use Rattle.trace.specs.Over.{Over, BeginsMore}
 use Rattle.order_list.specs.Order.{Apart}
 use Rattle.code.specs.declared.args.Args.{Args}
 use Rattle.code.specs.Args.{listed, given}
 use Rattle.table.specs.declared.record.Record.{Record}
-use Rattle.table.specs.declared.record.Entry.TheVariants.{Blank, New}
+use Rattle.table.specs.declared.record.Entry.TheVariants.{New}
 use Rattle.table.specs.declared.table.Table.{Table}
 use Rattle.table.specs.Records.{content_inside}
 use Rattle.table.specs.Stamps.{Member}
-use Rattle.table.specs.Standing.{at, store, Standing}
+use Rattle.table.specs.Standing.{store, Standing}
 use Rattle.table.specs.Changes.{SameInputs}
-use Rattle.table.specs.Ran.{Ready, Open, HasBegun, HasEnded, Ran, Exceeds}
+use Rattle.table.specs.Ran.{Open, HasBegun, HasEnded, Ran, Exceeds}
 use Rattle.order_list.specs.declared.list.OrderList.{Ghosts}
 use Rattle.table.specs.Anew.{nothing, Cleared, RanAnew, Exceeded}
 use Rattle.table.proofs.Runs.{stores, ran_write, ran_new}

@@ -1,5 +1,5 @@
 -- The ways a run goes, each put together from its parts.
-use Rattle.std.proofs.Common.{◌≡◌, ℕ, suc, ◌+◌, true, false, eqb, ◌≢◌, List, [], ◌∷◌, ◌++◌, get_or, sym, refl, ap, ◌∙◌, subst, ap₂, inl, inr, append_assoc, arith}
+use Rattle.std.proofs.Common.{◌≡◌, ℕ, suc, ◌+◌, true, false, ◌≢◌, List, [], ◌∷◌, ◌++◌, get_or, sym, refl, ap, ◌∙◌, subst, ap₂, inl, inr, append_assoc, arith}
 use Rattle.std.proofs.lemmas.Bool.Decides.{eqb_tells}
 use Rattle.program.specs.View.{View}
 use Rattle.program.specs.declared.value.Name.{Name}
@@ -10,7 +10,7 @@ use Rattle.program.specs.declared.value.Content.{Content}
 use Rattle.program.specs.declared.value.Content.TheVariants.{Empty}
 use Rattle.program.specs.declared.value.Value.{Value}
 use Rattle.trace.specs.Code.{Code, Reader, next, writes, makes, reads, resume, enter, entered, arguments}
-use Rattle.trace.specs.Trace.{Trace, write, new, read, written, places, size, Store, put, after, Absent, Distinct, Among}
+use Rattle.trace.specs.Trace.{write, new, read, written, places, size, Store, put, after, Absent, Among}
 use Rattle.trace.specs.Run.{Follows, Kept, Run, content_of_input}
 use Rattle.trace.specs.Over.{Over, one_made, one_read, over_inside, over_behind, over_read}
 use Rattle.trace.proofs.Places.{absent_left, absent_right, absent_join, distinct_join, among_cases, not_among}
@@ -24,12 +24,12 @@ use Rattle.table.specs.declared.record.Record.{Record}
 use Rattle.table.specs.declared.record.Entry.{Entry}
 use Rattle.table.specs.declared.record.Entry.TheVariants.{Blank, New, Read}
 use Rattle.table.specs.declared.table.Table.{Table}
-use Rattle.table.specs.Records.{Sort, free, a_new, a_read, sort, content_inside, wrote}
+use Rattle.table.specs.Records.{sort, content_inside, wrote}
 use Rattle.table.specs.Stamps.{Member, Moved}
-use Rattle.table.specs.Standing.{at, owner, store, Shape, Owned, numbers}
+use Rattle.table.specs.Standing.{at, owner, store, numbers}
 use Rattle.table.specs.Ran.{Ready, Sets, HasBegun, HasEnded, Ran, Exceeds}
 use Rattle.table.proofs.Lists.{moved_none, moved_on, moved_as, moved_apart, apart_right, not_both, not_append}
-use Rattle.table.proofs.Shapes.{shape_same, holds_same, numbers_same, numbers_new, numbers_read, blank_free, marked, stays, owned_same}
+use Rattle.table.proofs.Shapes.{shape_same, holds_same, numbers_same, numbers_new, numbers_read, marked, stays, owned_same}
 use Rattle.table.proofs.Steps.{same_trans}
 
 -- ── stores ──

@@ -1,5 +1,5 @@
 -- A trace in a table: what depends on its own places only.
-use Rattle.std.proofs.Common.{◌≡◌, ℕ, ◌+◌, ◌*◌, true, ◌≢◌, ◌⊎◌, List, [], ◌∷◌, ◌++◌, map, length, sym, refl, ap, ◌∙◌, inl, inr, arith, length-append}
+use Rattle.std.proofs.Common.{◌≡◌, ℕ, ◌*◌, true, ◌≢◌, List, [], ◌∷◌, ◌++◌, map, length, sym, refl, ap, ◌∙◌, inl, inr, arith, length-append}
 use Rattle.program.specs.declared.value.Name.{Name}
 use Rattle.program.specs.declared.value.Content.{Content}
 use Rattle.program.specs.declared.value.Value.{Value}

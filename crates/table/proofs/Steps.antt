@@ -1,5 +1,5 @@
 -- One record begun or ended, from what the table's methods and the list say.
-use Rattle.std.proofs.Common.{◌≡◌, ℕ, suc, ◌+◌, ◌*◌, ◌<◌, ◌≤◌, ◌≢◌, List, [], ◌∷◌, length, get_or, set, sym, refl, ap, ◌∙◌, subst, inl, inr, arith, get_or-set_other, get_or-set_same}
+use Rattle.std.proofs.Common.{◌≡◌, ℕ, ◌<◌, ◌≤◌, ◌≢◌, List, [], ◌∷◌, length, get_or, sym, ap, ◌∙◌, subst, inl, inr, arith, get_or-set_other, get_or-set_same}
 use Rattle.std.proofs.lemmas.Bool.{cases_eq}
 use Rattle.program.specs.declared.value.Content.{Content}
 use Rattle.table.specs.declared.record.Record.{Record}
@@ -8,8 +8,8 @@ use Rattle.table.specs.declared.record.Entry.TheVariants.{Blank}
 use Rattle.table.specs.declared.table.Table.{Table}
 use Rattle.table.specs.Records.{blank, source_of, wrote}
 use Rattle.table.specs.Rings.{Unlinked}
-use Rattle.table.specs.Stamps.{Member, Moved}
-use Rattle.table.specs.Standing.{at, owner, Free, Tied}
+use Rattle.table.specs.Stamps.{Moved}
+use Rattle.table.specs.Standing.{at, Free, Tied}
 use Rattle.table.specs.Changes.{SameInputs, Took, Puts, Enters, Owns}
 use Rattle.table.specs.Ran.{Ready, Open, Ending, Sets, OwnedBy, HasBegun, HasEnded}
 use Rattle.table.proofs.Lists.{moved_member, moved_length}

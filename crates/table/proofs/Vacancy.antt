@@ -1,11 +1,10 @@
 -- A table in which nothing stands.
-use Rattle.std.proofs.Common.{◌≡◌, ℕ, ◌+◌, ◌*◌, ◌<◌, ◌≤◌, eqb, ◌≢◌, List, [], ◌∷◌, get_or, replicate, sym, refl, ap, ◌∙◌, subst, arith}
+use Rattle.std.proofs.Common.{◌≡◌, ℕ, ◌+◌, ◌*◌, ◌<◌, ◌≤◌, eqb, List, [], ◌∷◌, get_or, sym, refl, ap, ◌∙◌, subst, arith}
 use Rattle.std.proofs.lemmas.Bool.{ne_eqb}
-use Rattle.table.specs.declared.record.Record.{Record}
 use Rattle.table.specs.declared.record.Entry.{Entry}
 use Rattle.table.specs.declared.record.Entry.TheVariants.{Blank}
 use Rattle.table.specs.declared.table.Table.{Table}
-use Rattle.table.specs.Records.{blank, source_of}
+use Rattle.table.specs.Records.{source_of}
 use Rattle.table.specs.Rings.{Rings}
 use Rattle.table.specs.Standing.{at, Free, Tied, Standing}
 use Rattle.table.specs.Anew.{nothing, Vacant}

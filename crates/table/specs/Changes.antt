@@ -1,12 +1,10 @@
 -- What the table's own methods change.
-use Rattle.std.specs.Prelude.{◌≡◌, ℕ, suc, ◌<◌, cond, ◌≢◌, List, Ok, Err, Result, slice_index, slice_set}
-use Rattle.order_list.specs.Order.{has}
+use Rattle.std.specs.Prelude.{◌≡◌, ℕ, suc, List, Ok, Err, Result, slice_index, slice_set}
 use Rattle.table.specs.declared.record.Record.{Record}
 use Rattle.table.specs.declared.record.TooLarge.{TooLarge}
 use Rattle.table.specs.declared.table.Table.{Table}
 use Rattle.table.specs.Records.{source_of}
 use Rattle.table.specs.Rings.{Rings, NoReader, joined}
-use Rattle.table.specs.Standing.{at}
 
 -- the inputs are as they were, and those that open noted too
 pub record SameInputs (a b : Table) : Type 0 where

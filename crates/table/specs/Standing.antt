@@ -1,5 +1,5 @@
 -- How a table and an order list hold a trace.
-use Rattle.std.specs.Prelude.{◌≡◌, ℕ, ◌+◌, ◌*◌, ◌<◌, ◌≤◌, ◌≢◌, ◌⊎◌, List, [], ◌∷◌, map, ◌==◌, slice_index, slice_index_or}
+use Rattle.std.specs.Prelude.{◌≡◌, ℕ, ◌+◌, ◌*◌, ◌<◌, ◌≤◌, ◌≢◌, List, ◌∷◌, map, ◌==◌, slice_index, slice_index_or}
 use Rattle.program.specs.declared.value.Name.TheVariants.{Input, Made}
 use Rattle.program.specs.declared.value.InputContent.{InputContent}
 use Rattle.program.specs.declared.value.InputContent.TheVariants.{Empty as empty}

@@ -1,12 +1,12 @@
 -- How the reader cuts a text into its lines.
-use Rattle.std.proofs.Common.{◌≡◌, ℕ, zero, suc, ◌+◌, ◌-◌, ◌%◌, ◌<◌, ◌≤◌, Bool, true, false, cond, ◌&&◌, eqb, leb, List, [], ◌∷◌, map, length, get_or, take, drop, Some, None, Ok, Err, Option, Result, sym, refl, ap, ◌∙◌, ⊎_elim, add-one, arith, length-drop}
-use Rattle.std.proofs.lemmas.Bool.{ne_eqb, le-leb}
-use Rattle.std.proofs.lemmas.Bool.Decides.{nat_tests, eqb_tells}
+use Rattle.std.proofs.Common.{◌≡◌, ℕ, suc, ◌+◌, ◌<◌, ◌≤◌, Bool, true, false, cond, ◌&&◌, eqb, leb, List, [], ◌∷◌, map, length, get_or, take, drop, Some, None, Ok, Err, Option, Result, sym, refl, ap, ◌∙◌, ⊎_elim, arith, length-drop}
+use Rattle.std.proofs.lemmas.Bool.{le-leb}
+use Rattle.std.proofs.lemmas.Bool.Decides.{eqb_tells}
 use Rattle.text.specs.declared.line.Word.{Word}
 use Rattle.text.specs.declared.line.LineFault.{LineFault}
 use Rattle.text.specs.declared.line.LineFault.TheVariants as f
 use Rattle.text.specs.First.{or_else, no_fault, none_left}
-use Rattle.text.specs.Lines.{Said, Told, line_end, right_length, line_of, Raw, longer, lines_in, line_fault, line_rules, fault_in, standing, lines_of, reading, worded, word_of, or_nil, text_fault}
+use Rattle.text.specs.Lines.{Said, Told, line_end, right_length, line_of, Raw, longer, lines_in, line_fault, fault_in, standing, lines_of, reading, worded, word_of, or_nil, text_fault}
 use Rattle.text.specs.Numbers.{fields_stand, numbers_in}
 use Rattle.text.specs.Reader.{Reads, Falls}
 use Rattle.text.proofs.Passes.{or_none}

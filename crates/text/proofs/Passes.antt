@@ -1,5 +1,5 @@
 -- A pass over the lines, whatever its rules: what a turn leaves to find.
-use Rattle.std.proofs.Common.{◌≡◌, ℕ, ◌+◌, Bool, true, false, not, List, [], ◌∷◌, is_some, IfSome, Some, None, Ok, Err, Option, Result, sym, refl, ap, ◌∙◌, arith}
+use Rattle.std.proofs.Common.{◌≡◌, ℕ, ◌+◌, Bool, true, false, not, ◌∷◌, is_some, IfSome, Some, None, Ok, Err, Option, sym, refl, ap, ◌∙◌, arith}
 use Rattle.text.specs.declared.line.Line.{Line}
 use Rattle.text.specs.declared.lines.Lines.{Lines}
 use Rattle.text.specs.First.{first, none_left, or_else, answer}

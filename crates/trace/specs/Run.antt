@@ -1,5 +1,5 @@
 -- Runs: which trace a program leaves on its inputs, as a relation and computed.
-use Rattle.std.specs.Prelude.{◌≡◌, cond, List, ℕ, zero, suc, ◌+◌, leb, get_or, ℤ}
+use Rattle.std.specs.Prelude.{◌≡◌, cond, List, ℕ, zero, suc, ◌+◌, leb, get_or}
 use Rattle.std.proofs.Math.Option.{Option, some, none}
 use Rattle.program.specs.View.{View}
 use Rattle.program.specs.declared.value.Name.TheVariants.{Input, Made}

@@ -1,7 +1,7 @@
 use Rattle.std.proofs.Common.{refl, add-one, arith}
 use Rattle.chained_list.specs.Chain.{Retagged}
 use Rattle.chained_list.proofs.Neighbours.{in_range}
-use Rattle.chained_list.proofs.Spreads.{begins, starts, few, small, same_more, tags_more, at_more, ends}
+use Rattle.chained_list.proofs.Spreads.{begins, starts, small, same_more, tags_more, at_more, ends}
 use Rattle.chained_list.proofs.tag_range.spread_out.Goals as goal
 
 pub loop-j-init : goal.loop-j-init

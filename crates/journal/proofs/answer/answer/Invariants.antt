@@ -1,4 +1,4 @@
-use Rattle.std.proofs.Common.{◌≡◌, ℕ, List, ◌++◌, length, vec_items}
+use Rattle.std.proofs.Common.{ℕ, List, ◌++◌, length, vec_items}
 use Rattle.journal.specs.Answers.{Answered}
 use Rattle.journal.proofs.answer.answer.Given as goal
 

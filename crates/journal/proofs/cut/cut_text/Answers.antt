@@ -1,4 +1,4 @@
-use Rattle.std.proofs.Common.{length, sym, ap, ◌∙◌, arith, length-append, rules}
+use Rattle.std.proofs.Common.{length, sym, ap, ◌∙◌, arith, length-append}
 use Rattle.std.proofs.lemmas.List.{nil_from_length}
 use Rattle.journal.proofs.Cutting.{past_none, past_line, text_ends, all_text}
 use Rattle.journal.proofs.cut.cut_text.Goals as goal

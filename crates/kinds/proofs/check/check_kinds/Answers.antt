@@ -1,4 +1,4 @@
-use Rattle.std.proofs.Common.{◌≡◌, ℕ, List, Ok, Err, Result}
+use Rattle.std.proofs.Common.{ℕ, List, Ok, Err, Result}
 use Rattle.kinds.specs.declared.fault.Refusal.{Refusal}
 use Rattle.kinds.specs.declared.fault.Refusal.TheVariants.{Fault, Memory}
 use Rattle.kinds.specs.Kinds.{fault_of}

@@ -1,7 +1,7 @@
-use Rattle.std.proofs.Common.{◌≡◌, ℕ, ◌+◌, Bool, false, List, [], ◌∷◌, length, ℤ, Some, None, vec_items, sym, ap, ◌∙◌, arith}
+use Rattle.std.proofs.Common.{◌≡◌, ◌+◌, Bool, false, List, length, ℤ, sym, ap, ◌∙◌, arith}
 use Rattle.std.proofs.lemmas.Result.{err_from_is_err_and}
 use Rattle.text.specs.First.{first, or_else, none_left}
-use Rattle.text.specs.Lines.{Said, Told, lines_of}
+use Rattle.text.specs.Lines.{Told, lines_of}
 use Rattle.text.specs.Told.{told, numbered, said}
 use Rattle.text.specs.Reader.{left, passed}
 use Rattle.text.proofs.Cuts.{lines_standing}

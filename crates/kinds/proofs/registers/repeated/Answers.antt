@@ -1,4 +1,4 @@
-use Rattle.std.proofs.Common.{◌≡◌, ◌+◌, ◌<◌, List, [], ◌∷◌, ◌++◌, length, get_or, replicate, vec_items, sym, refl, ap, ◌∙◌, arith, rules}
+use Rattle.std.proofs.Common.{[], ◌∷◌, ◌++◌, replicate, vec_items, ap, ◌∙◌}
 use Rattle.std.proofs.lemmas.List.{append_assoc, replicate_more}
 use Rattle.kinds.proofs.registers.repeated.Goals as goal
 

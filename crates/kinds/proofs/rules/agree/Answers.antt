@@ -1,8 +1,8 @@
-use Rattle.std.proofs.Common.{◌≡◌, ◌+◌, ◌<◌, ◌≤◌, true, false, cond, length, get_or, drop, pos, sym, ap, ◌∙◌, arith, rules}
+use Rattle.std.proofs.Common.{◌<◌, true, false, length, get_or, pos, sym, ap, ◌∙◌, arith}
 use Rattle.text.specs.Values.{values}
-use Rattle.kinds.specs.Kinds.{same_kind, kind_in, takes}
-use Rattle.text.specs.Numbers.{whole_of, kind_of}
-use Rattle.kinds.proofs.Agrees.{there_at, starts_at, starts_short, takes_at, takes_all, takes_uneven}
+use Rattle.kinds.specs.Kinds.{same_kind, kind_in}
+use Rattle.text.specs.Numbers.{whole_of}
+use Rattle.kinds.proofs.Agrees.{takes_at, takes_all, takes_uneven}
 use Rattle.kinds.proofs.rules.agree.Goals as goal
 
 pub returns-then-count : goal.returns-then-count

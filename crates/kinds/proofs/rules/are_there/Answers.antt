@@ -1,8 +1,8 @@
-use Rattle.std.proofs.Common.{◌≡◌, ◌+◌, ◌<◌, ◌≤◌, true, false, cond, length, get_or, drop, pos, sym, ap, ◌∙◌, arith, rules}
+use Rattle.std.proofs.Common.{◌<◌, true, false, length, sym, ap, ◌∙◌, arith}
 use Rattle.std.proofs.lemmas.List.{at_drop_all}
 use Rattle.text.specs.Values.{values}
 use Rattle.kinds.specs.Named.{names, there, all_there}
-use Rattle.kinds.proofs.Agrees.{there_at, starts_at, starts_short, takes_at, takes_all, takes_uneven}
+use Rattle.kinds.proofs.Agrees.{there_at}
 use Rattle.kinds.proofs.rules.are_there.Goals as goal
 
 pub returns-then-not-is_there : goal.returns-then-not-is_there

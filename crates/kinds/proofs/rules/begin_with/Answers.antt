@@ -1,10 +1,10 @@
-use Rattle.std.proofs.Common.{◌≡◌, ◌+◌, ◌<◌, ◌≤◌, true, false, cond, length, get_or, drop, pos, Some, sym, ap, ◌∙◌, arith, rules}
+use Rattle.std.proofs.Common.{◌<◌, true, false, length, get_or, drop, Some, sym, ap, ◌∙◌, arith}
 use Rattle.text.specs.declared.fields.Kind.TheVariants as k
 use Rattle.std.proofs.lemmas.List.{at_drop_all}
 use Rattle.kinds.proofs.rules.begin_with.Goals.{then-j-count-via-then-j-count, then-j-count-via-else-j-count+then-not-same}
 use Rattle.text.specs.Values.{values}
 use Rattle.kinds.specs.Kinds.{same_kind, starts}
-use Rattle.kinds.proofs.Agrees.{there_at, starts_at, starts_short, takes_at, takes_all, takes_uneven}
+use Rattle.kinds.proofs.Agrees.{starts_at, starts_short}
 use Rattle.kinds.proofs.rules.begin_with.Goals as goal
 
 pub returns-then-j-count : goal.returns-then-j-count

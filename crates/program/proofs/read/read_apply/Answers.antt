@@ -1,6 +1,4 @@
-use Rattle.std.proofs.Common.{◌≡◌, ℕ, ◌≤◌, List, [], ◌∷◌, ◌++◌, length, get_or, drop, ℤ, pos, vec_items, sym, refl, ap, ◌∙◌}
-use Rattle.text.specs.declared.line.Word.{Word}
-use Rattle.text.specs.declared.line.Word.TheVariants as w
+use Rattle.std.proofs.Common.{◌≡◌, List, [], ◌∷◌, length, get_or, ℤ, pos, ap, ◌∙◌}
 use Rattle.text.specs.Lines.{Said}
 use Rattle.text.specs.Values.{values}
 use Rattle.program.specs.Programs.{wholes, op_word}

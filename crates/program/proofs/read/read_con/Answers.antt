@@ -1,11 +1,9 @@
-use Rattle.std.proofs.Common.{◌≡◌, ℕ, ◌≤◌, List, [], ◌∷◌, ◌++◌, length, get_or, drop, ℤ, pos, vec_items, sym, refl, ap, ◌∙◌}
-use Rattle.text.specs.declared.line.Word.{Word}
+use Rattle.std.proofs.Common.{List, [], ◌∷◌, get_or, ℤ, pos, ap, ◌∙◌}
 use Rattle.text.specs.declared.line.Word.TheVariants as w
 use Rattle.text.specs.Lines.{Said}
 use Rattle.text.specs.Values.{values}
-use Rattle.program.specs.Programs.{wholes}
-use Rattle.program.specs.Formed.{entry_of, entries}
-use Rattle.program.proofs.Entries.{single_back, two_back, nil_back, get_back, cas_back}
+use Rattle.program.specs.Formed.{entry_of}
+use Rattle.program.proofs.Entries.{two_back}
 use Rattle.program.proofs.read.read_con.Goals as goal
 
 pub returns : goal.returns

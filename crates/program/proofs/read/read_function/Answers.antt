@@ -1,7 +1,7 @@
-use Rattle.std.proofs.Common.{◌≡◌, List, [], ◌∷◌, ◌++◌, map, length, vec_items, sym, ap, ◌∙◌, subst, arith}
+use Rattle.std.proofs.Common.{[], ◌∷◌, ◌++◌, map, length, vec_items, sym, ap, ◌∙◌, subst, arith}
 use Rattle.std.proofs.lemmas.List.{append_assoc, map_push}
 use Rattle.text.specs.declared.line.Word.TheVariants as w
-use Rattle.text.specs.Lines.{Said, Told}
+use Rattle.text.specs.Lines.{Told}
 use Rattle.text.specs.Told.{said}
 use Rattle.text.specs.Values.{values}
 use Rattle.text.specs.Reader.{left}

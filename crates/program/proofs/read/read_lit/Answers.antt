@@ -1,10 +1,7 @@
-use Rattle.std.proofs.Common.{◌≡◌, ℕ, ◌≤◌, List, [], ◌∷◌, ◌++◌, length, get_or, drop, ℤ, pos, vec_items, sym, refl, ap, ◌∙◌, w32, SFits, rules}
-use Rattle.text.specs.declared.line.Word.{Word}
+use Rattle.std.proofs.Common.{List, [], ◌∷◌, ℤ, ap, ◌∙◌, w32, SFits, rules}
 use Rattle.text.specs.declared.line.Word.TheVariants as w
 use Rattle.text.specs.Lines.{Said}
 use Rattle.text.specs.Values.{values}
-use Rattle.program.specs.Programs.{wholes}
-use Rattle.program.specs.Formed.{entry_of, entries}
 use Rattle.std.proofs.lemmas.Int.{to_z-of_z}
 use Rattle.program.proofs.Entries.{one_back}
 use Rattle.program.proofs.read.read_lit.Goals as goal

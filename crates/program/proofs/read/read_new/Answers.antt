@@ -1,10 +1,9 @@
-use Rattle.std.proofs.Common.{◌≡◌, ℕ, ◌≤◌, List, [], ◌∷◌, ◌++◌, length, get_or, drop, ℤ, pos, vec_items, sym, refl, ap, ◌∙◌}
-use Rattle.text.specs.declared.line.Word.{Word}
+use Rattle.std.proofs.Common.{◌≡◌, List, ◌∷◌, get_or, drop, ℤ, pos, vec_items, ap, ◌∙◌}
 use Rattle.text.specs.declared.line.Word.TheVariants as w
 use Rattle.text.specs.Lines.{Said}
 use Rattle.text.specs.Values.{values}
-use Rattle.program.specs.Programs.{wholes, op_word}
-use Rattle.program.specs.Formed.{entry_of, entries, Held}
+use Rattle.program.specs.Programs.{wholes}
+use Rattle.program.specs.Formed.{entry_of, entries}
 use Rattle.program.proofs.Entries.{more_back}
 use Rattle.program.proofs.read.read_new.Goals as goal
 

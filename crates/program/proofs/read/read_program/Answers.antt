@@ -1,7 +1,5 @@
 use Rattle.std.proofs.Common.{vec_items}
 use Rattle.text.specs.Lines.{lines_of}
-use Rattle.text.specs.Reader.{left}
-use Rattle.text.specs.Values.{values}
 use Rattle.text.proofs.Rendered.{rendering_of}
 use Rattle.program.proofs.Kept.{keeps}
 use Rattle.program.proofs.Faultless.{faultless, functions_due, text_read}

@@ -1,8 +1,8 @@
-use Rattle.std.proofs.Common.{◌≡◌, [], length, Err, sym, ap, ◌∙◌, arith, rules}
+use Rattle.std.proofs.Common.{◌≡◌, [], Err, sym, ap, ◌∙◌, arith}
 use Rattle.std.proofs.lemmas.List.{nil_from_length}
 use Rattle.std.proofs.lemmas.Result.{err_from_is_err_and}
 use Rattle.text.specs.First.{answer}
-use Rattle.text.specs.Lines.{line_fault, lines_in, text_fault}
+use Rattle.text.specs.Lines.{line_fault, lines_in}
 use Rattle.text.proofs.Cuts.{in_length, read_on, fallen}
 use Rattle.text.proofs.check.check_each.Goals as goal
 

@@ -1,8 +1,7 @@
-use Rattle.std.proofs.Common.{◌≡◌, ◌+◌, ◌-◌, length, take, drop, Ok, Err, sym, ap, ◌∙◌, subst, arith, rules}
+use Rattle.std.proofs.Common.{◌≡◌, ◌+◌, ◌-◌, take, sym, ap, ◌∙◌, subst, arith}
 use Rattle.std.proofs.lemmas.Result.{err_from_is_err_and}
 use Rattle.std.proofs.lemmas.List.{take_rest}
 use Rattle.text.specs.Lines.{line_of}
-use Rattle.text.specs.Told.{numbered, said, told_line}
 use Rattle.text.specs.Reader.{Reads}
 use Rattle.text.proofs.Cuts.{reads, falls, unended}
 use Rattle.text.proofs.cut.first_line.Goals as goal

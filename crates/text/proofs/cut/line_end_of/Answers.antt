@@ -1,4 +1,4 @@
-use Rattle.std.proofs.Common.{◌≡◌, ◌+◌, ◌∷◌, get_or, drop, sym, ◌∙◌, arith}
+use Rattle.std.proofs.Common.{◌+◌, get_or, drop, sym, ◌∙◌, arith}
 use Rattle.std.proofs.lemmas.List.{at_drop_more, at_drop_all}
 use Rattle.text.specs.Lines.{line_end}
 use Rattle.text.proofs.Cuts.{end_here, end_on}

@@ -1,6 +1,6 @@
-use Rattle.std.proofs.Common.{sym, ap, ◌∙◌, arith, rules}
+use Rattle.std.proofs.Common.{sym, ap, ◌∙◌, rules}
 use Rattle.std.proofs.lemmas.List.{take_rest}
-use Rattle.text.specs.Field.{unspaced, signed_of, natural_of, as_negative}
+use Rattle.text.specs.Field.{signed_of, natural_of, as_negative}
 use Rattle.text.proofs.FieldRule.{signed_minus, field_six}
 use Rattle.text.proofs.fields.field.Goals as goal
 

@@ -1,4 +1,4 @@
-use Rattle.std.proofs.Common.{◌≡◌, ◌+◌, ◌≤◌, length, drop, vec_items, ap, ◌∙◌, arith, rules}
+use Rattle.std.proofs.Common.{◌≡◌, ◌+◌, ◌≤◌, drop, vec_items, arith, rules}
 use Rattle.program.proofs.Sound.{sound}
 use Rattle.program.proofs.Steps.{steps, steps_more, steps_all}
 use Rattle.program.proofs.program.Program.steps.Goals as goal

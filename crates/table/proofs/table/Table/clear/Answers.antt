@@ -1,4 +1,4 @@
-use Rattle.std.proofs.Common.{ℕ, ◌+◌, ◌*◌, ◌≤◌, List, sym, refl, ap, ◌∙◌, subst, arith}
+use Rattle.std.proofs.Common.{refl, ap, arith}
 use Rattle.table.specs.declared.record.Record.{Record}
 use Rattle.table.proofs.Vacancy.{vacant, standing_in}
 use Rattle.table.proofs.table.Table.clear.Goals as goal

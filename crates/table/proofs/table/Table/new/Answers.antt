@@ -1,4 +1,4 @@
-use Rattle.std.proofs.Common.{refl, ap, arith}
+use Rattle.std.proofs.Common.{refl, ap}
 use Rattle.table.specs.declared.record.Record.{Record}
 use Rattle.table.proofs.Vacancy.{vacant}
 use Rattle.table.proofs.table.Table.new.Goals as goal

@@ -1,4 +1,4 @@
-use Rattle.std.proofs.Common.{sym, refl, ◌∙◌}
+use Rattle.std.proofs.Common.{◌∙◌}
 use Rattle.program.specs.View.{viewed}
 use Rattle.table.proofs.Runs.{none_made, over_inside_new, new_there}
 use Rattle.table.proofs.Steps.{same_trans, begun_open}

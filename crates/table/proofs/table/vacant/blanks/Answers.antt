@@ -1,4 +1,4 @@
-use Rattle.std.proofs.Common.{◌≡◌, ℕ, get_or, replicate, sym, refl, subst}
+use Rattle.std.proofs.Common.{◌≡◌, get_or, replicate, sym, refl, subst}
 use Rattle.table.specs.declared.record.Record.{Record}
 use Rattle.table.specs.Records.{blank}
 use Rattle.table.proofs.Zeroed.{all_alike}

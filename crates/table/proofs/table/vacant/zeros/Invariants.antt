@@ -1,4 +1,4 @@
-use Rattle.std.proofs.Common.{◌≡◌, ℕ, ◌≤◌, cond, ltb, length, get_or, pos}
+use Rattle.std.proofs.Common.{◌≡◌, ℕ, cond, ltb, length, get_or, pos}
 use Rattle.program.specs.declared.value.InputContent.TheVariants.{Number, Empty}
 use Rattle.table.proofs.table.vacant.zeros.Given as goal
 
