@@ -4,7 +4,7 @@ use mathlib.Core.Bool.{Bool-set}
 use mathlib.Core.Logic.{∥∥₁_elim}
 use Rattle.std.specs.List.Sorted.{IsPermutation}
 use Rattle.std.proofs.lemmas.List.{length-take-le, get_or-take}
-use Rattle.std.specs.List.{AllByRecursion as All}
+use Rattle.std.specs.List.{AllByRecursion}
 use Rattle.std.proofs.lemmas.Bool.{cases_Bool}
 use Rattle.std.proofs.lemmas.Bool.Decides.{nat_tests}
 use Rattle.queue.specs.declared.booking.Booking.{Booking}
@@ -109,12 +109,12 @@ waiting_ascends s = ascending_listed sooner sooner_oneway sooner_chain (take s.c
 later_too : (d : ℕ) (a b : Booking) → due a d ≡ false → sooner a b ≡ true → due b d ≡ false
 later_too d a b n s = grind (arith, nat_tests)
 
-none_behind : (d : ℕ) (a : Booking) (bs : List Booking) → due a d ≡ false → All (λ b. sooner a b ≡ true) bs → All (λ b. due b d ≡ false) bs
+none_behind : (d : ℕ) (a : Booking) (bs : List Booking) → due a d ≡ false → AllByRecursion (λ b. sooner a b ≡ true) bs → AllByRecursion (λ b. due b d ≡ false) bs
 none_behind d a [] n h = tt
 none_behind d a (b ∷ bs) n h = (later_too d a b n h.0, none_behind d a bs n h.1)
 
 -- where the first is not due, none is
-pub none_left : (d : ℕ) (ws : List Booking) → Ascending sooner ws → first_due ws d ≡ None → All (λ b. due b d ≡ false) ws
+pub none_left : (d : ℕ) (ws : List Booking) → Ascending sooner ws → first_due ws d ≡ None → AllByRecursion (λ b. due b d ≡ false) ws
 none_left d [] a n = tt
 none_left d (b ∷ bs) a n = elim (cases_Bool (due b d)) [
   | inl e ↦ let z : Some b ≡ None = rw e at n in let y : ◌≡◌ {A = ℕ} 0 1 = cc in absurd (omega arith)

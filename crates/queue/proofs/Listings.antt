@@ -1,7 +1,7 @@
 -- Lists in order, at most one element to a place.
 use Rattle.std.proofs.Common.{◌≡◌, ℕ, zero, suc, ◌<◌, Bool, true, false, cond, ◌⊎◌, List, [], ◌∷◌, length, get_or, take, set, sum_by, sym, refl, ap, ◌∙◌, subst, inl, inr, ⊎_elim, arith}
 use Rattle.std.specs.List.Sorted.{IsPermutation}
-use Rattle.std.specs.List.{AllByRecursion as All}
+use Rattle.std.specs.List.{AllByRecursion}
 use Rattle.std.proofs.lemmas.List.{get_or-set_same, get_or-set_other, length-set}
 use Rattle.std.proofs.lemmas.List.Sorted.{sum_by-IsPermutation, IsPermutation-refl, IsPermutation-sym, IsPermutation-trans, IsPermutation-cons, IsPermutation-swap}
 use Rattle.std.proofs.ByRecursion.{all_shuffled}
@@ -20,16 +20,16 @@ abbrev pub In : {X : Type 0} → List X → X → Type 0
 In [] z = ⊥
 In (y ∷ ys) z = (y ≡ z) ⊎ In ys z
 
-all_map : {X : Type 0} (P Q : X → Type 0) (f : (z : X) → P z → Q z) (xs : List X) → All P xs → All Q xs
+all_map : {X : Type 0} (P Q : X → Type 0) (f : (z : X) → P z → Q z) (xs : List X) → AllByRecursion P xs → AllByRecursion Q xs
 all_map P Q f [] h = tt
 all_map P Q f (x ∷ xs) h = (f x h.0, all_map P Q f xs h.1)
 
-all_at : {X : Type 0} (P : X → Type 0) (xs : List X) (z : X) → All P xs → In xs z → P z
+all_at : {X : Type 0} (P : X → Type 0) (xs : List X) (z : X) → AllByRecursion P xs → In xs z → P z
 all_at P [] z a h = absurd h
 all_at P (x ∷ xs) z a (inl e) = subst P e a.0
 all_at P (x ∷ xs) z a (inr h) = all_at P xs z a.1 h
 
-all_from : {X : Type 0} (P : X → Type 0) (xs : List X) → ((z : X) → In xs z → P z) → All P xs
+all_from : {X : Type 0} (P : X → Type 0) (xs : List X) → ((z : X) → In xs z → P z) → AllByRecursion P xs
 all_from P [] f = tt
 all_from P (x ∷ xs) f = (f x (inl refl), all_from P xs (λ z h. f z (inr h)))
 
@@ -108,14 +108,14 @@ module _ {X : Type 0} (before : X → X → Bool) (oneway : (a b : X) → before
   same_itself : (a : X) → same before a a ≡ true
   same_itself a = both_same a a (itself a) (itself a)
 
-  all_placed : (P : X → Type 0) (x : X) (m : List X) → P x → All P m → All P (placed before x m)
+  all_placed : (P : X → Type 0) (x : X) (m : List X) → P x → AllByRecursion P m → AllByRecursion P (placed before x m)
   all_placed P x [] p a = (p, tt)
   all_placed P x (y ∷ ys) p a = elim (cases_Bool (before x y)) [
     | inl e ↦ rw e (p, a)
     | inr e ↦ rw e (elim (cases_Bool (before y x)) [ inl f ↦ rw f (a.0, all_placed P x ys p a.1) | inr f ↦ rw f (p, a.1) ])
   ]
 
-  all_listed : (P : X → Type 0) (xs : List X) → All P xs → All P (listed before xs)
+  all_listed : (P : X → Type 0) (xs : List X) → AllByRecursion P xs → AllByRecursion P (listed before xs)
   all_listed P [] a = tt
   all_listed P (x ∷ xs) a = all_placed P x (listed before xs) a.0 (all_listed P xs a.1)
 
@@ -274,11 +274,11 @@ module _ {X : Type 0} (before : X → X → Bool) (oneway : (a b : X) → before
   length_listed [] o = refl
   length_listed (x ∷ xs) o = length_placed x (listed before xs) (has_listed xs x ∙ once_none x xs o) ∙ ap suc (length_listed xs (once_behind x xs o))
 
-  placed_first : (x : X) (m : List X) → All (λ z. before x z ≡ true) m → placed before x m ≡ x ∷ m
+  placed_first : (x : X) (m : List X) → AllByRecursion (λ z. before x z ≡ true) m → placed before x m ≡ x ∷ m
   placed_first x [] a = refl
   placed_first x (y ∷ ys) a = rw a.0 refl
 
-  ahead : (x : X) (m : List X) → All (λ z. before z x ≡ false) m → has_place before m x ≡ false → All (λ z. before x z ≡ true) m
+  ahead : (x : X) (m : List X) → AllByRecursion (λ z. before z x ≡ false) m → has_place before m x ≡ false → AllByRecursion (λ z. before x z ≡ true) m
   ahead x m a n = all_from (λ z. before x z ≡ true) m (λ z h. elim (cases_Bool (before x z)) [
     | inl e ↦ e
     | inr e ↦ absurd (both_ways (same before z x) (none_in m x z n h) (both_same z x (all_at (λ w. before w x ≡ false) m z a h) e))

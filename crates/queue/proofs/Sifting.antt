@@ -1,7 +1,7 @@
 -- An element that rises or sinks through a heap.
 use Rattle.std.proofs.Common.{◌≡◌, ℕ, zero, suc, ◌+◌, ◌*◌, ◌/◌, ◌<◌, ◌≤◌, Bool, true, false, List, [], ◌∷◌, length, get_or, refl, ap, ◌∙◌, inl, inr, ⊎_elim, arith}
 use Rattle.std.specs.List.Sorted.{IsPermutation}
-use Rattle.std.specs.List.{AllByRecursion as All}
+use Rattle.std.specs.List.{AllByRecursion}
 use Rattle.std.proofs.ByRecursion.{all_shuffled}
 use Rattle.std.proofs.lemmas.Bool.{cases_eq, cases_Bool}
 use Rattle.queue.specs.Heaps.{Belong, HeapedTo, Heaped, HeapedBut, Foremost}
@@ -15,11 +15,11 @@ pub record Laws {X : Type 0} (P : X → Type 0) (before : X → X → Bool) : Ty
 pub never_itself : {X : Type 0} {P : X → Type 0} {before : X → X → Bool} → Laws P before → (a : X) → P a → before a a ≡ false
 never_itself {before = before} o a p = elim (cases_Bool (before a a)) [ inl e ↦ o.oneway a a p p e | inr e ↦ e ]
 
-pub belong_all : {X : Type 0} (P : X → Type 0) (xs : List X) → Belong P xs → All P xs
+pub belong_all : {X : Type 0} (P : X → Type 0) (xs : List X) → Belong P xs → AllByRecursion P xs
 belong_all P [] h = tt
 belong_all P (x ∷ xs) h = (h 0 x (omega arith), belong_all P xs (λ k d l. h (suc k) d (omega arith)))
 
-pub all_belong : {X : Type 0} (P : X → Type 0) (xs : List X) → All P xs → Belong P xs
+pub all_belong : {X : Type 0} (P : X → Type 0) (xs : List X) → AllByRecursion P xs → Belong P xs
 all_belong P [] h k d l = absurd (omega arith)
 all_belong P (x ∷ xs) h zero d l = h.0
 all_belong P (x ∷ xs) h (suc k) d l = all_belong P xs h.1 k d (omega arith)

@@ -1,6 +1,6 @@
 -- A list in order, at most one element to a place.
 use Rattle.std.specs.Prelude.{◌≡◌, ◌≤◌, Bool, true, false, cond, List, [], ◌∷◌, sum_by}
-use Rattle.std.specs.List.{AllByRecursion as All}
+use Rattle.std.specs.List.{AllByRecursion}
 
 -- whether neither stands before the other: they have the same place
 abbrev pub same : {X : Type 0} → (X → X → Bool) → X → X → Bool
@@ -28,4 +28,4 @@ Once {X} before xs = (x : X) → sum_by (λ y. cond (same before y x) 1 0) xs �
 -- each element stands before all behind it
 abbrev pub Ascending : {X : Type 0} → (X → X → Bool) → List X → Type 0
 Ascending before [] = Unit {0}
-Ascending before (x ∷ xs) = All (λ y. before x y ≡ true) xs × Ascending before xs
+Ascending before (x ∷ xs) = AllByRecursion (λ y. before x y ≡ true) xs × Ascending before xs

@@ -14,7 +14,7 @@ use Rattle.sheet.specs.declared.settled.Mark.{Mark}
 use Rattle.sheet.specs.declared.settled.Mark.TheVariants.{ByTurns, Anew}
 use Rattle.sheet.specs.declared.settled.Settled.{Settled}
 use Rattle.sheet.specs.declared.settled.NotSettled.{NotSettled}
-use Rattle.sheet.specs.declared.settled.NotSettled.TheVariants as not
+use Rattle.sheet.specs.declared.settled.NotSettled.TheVariants as instead
 use Rattle.sheet.specs.declared.sheet.Sheet.{Sheet}
 use Rattle.sheet.specs.Refusals.{refusal_of}
 use Rattle.sheet.specs.Shows.{Model, Shows}
@@ -36,8 +36,8 @@ mark_of Anew = 2
 
 abbrev pub settle_answer : Result Settled NotSettled → Answer
 settle_answer (Ok k) = done (mark_of k.mark) k.reexecuted k.made k.standing (a_pass (resting settled) k.pass.0)
-settle_answer (Err (not.Refused e)) = refused (refusal_of e.refusal)
-settle_answer (Err (not.TooLarge q)) = too_large (a_pass (resting unsettled) q.0)
+settle_answer (Err (instead.Refused e)) = refused (refusal_of e.refusal)
+settle_answer (Err (instead.TooLarge q)) = too_large (a_pass (resting unsettled) q.0)
 
 -- a refusal hands the pass back
 abbrev pub HandsBack : {A P : Type 0} → P → Result A (Refused P) → Type 0
@@ -46,8 +46,8 @@ HandsBack q (Err e) = e.pass ≡ q
 
 abbrev pub SettleHandsBack : OpenPass → Result Settled NotSettled → Type 0
 SettleHandsBack q (Ok k) = Unit {0}
-SettleHandsBack q (Err (not.Refused e)) = e.pass ≡ q
-SettleHandsBack q (Err (not.TooLarge p)) = Unit {0}
+SettleHandsBack q (Err (instead.Refused e)) = e.pass ≡ q
+SettleHandsBack q (Err (instead.TooLarge p)) = Unit {0}
 
 -- ── what a call does ──
 

@@ -5,7 +5,7 @@ use lib.ListN.{length-replicate}
 use lib.Signed.{mag}
 use Rattle.std.specs.Int.{IsInRange}
 use Rattle.std.specs.Fmt.{digit_glyph, digits_onto, digits, signed_decimal}
-use Rattle.std.specs.List.{AllByRecursion as All}
+use Rattle.std.specs.List.{AllByRecursion}
 use Rattle.std.proofs.lemmas.Bool.{eqb-true, leb-true, le-leb, eq-eqb, cond_both}
 use Rattle.std.proofs.lemmas.Bool.Decides.{nat_tests, eqb_tells}
 use Rattle.std.proofs.ByRecursion.{All-append, All-weaker}
@@ -24,14 +24,14 @@ read_on : ℕ → List ℕ → ℕ
 read_on n [] = n
 read_on n (b ∷ bs) = read_on (n * 10 + (b - 48)) bs
 
-own : IsNumeralModel (All (IsInRange 48 57)) (read_on 0)
+own : IsNumeralModel (AllByRecursion (IsInRange 48 57)) (read_on 0)
 unfolding read_on
-own = numerals_by_fold (All (IsInRange 48 57)) (record { empty = tt; parts = λ c cs p. p; more = λ c cs i p. (i, p) }) read_on (record { empty = λ n. refl; more = λ n c cs i. refl })
+own = numerals_by_fold (AllByRecursion (IsInRange 48 57)) (record { empty = tt; parts = λ c cs p. p; more = λ c cs i p. (i, p) }) read_on (record { empty = λ n. refl; more = λ n c cs i. refl })
 
 is_digit_in : (b : ℕ) → is_digit b ≡ true → IsInRange 48 57 b
 is_digit_in b e = grind (arith, nat_tests)
 
-digits_read : (n : ℕ) (bs : List ℕ) (v : ℕ) → digits_on n bs ≡ Some v → All (IsInRange 48 57) bs × (read_on n bs ≡ v)
+digits_read : (n : ℕ) (bs : List ℕ) (v : ℕ) → digits_on n bs ≡ Some v → AllByRecursion (IsInRange 48 57) bs × (read_on n bs ≡ v)
 unfolding read_on
 digits_read n [] v e = (tt, cc)
 digits_read n (b ∷ bs) v e =
@@ -39,7 +39,7 @@ digits_read n (b ∷ bs) v e =
     let r = digits_read (n * 10 + (b - 48)) bs v c.1 in
     ((is_digit_in b c.0, r.0), r.1)
 
-digits_back : (n : ℕ) (bs : List ℕ) → All (IsInRange 48 57) bs → digits_on n bs ≡ Some (read_on n bs)
+digits_back : (n : ℕ) (bs : List ℕ) → AllByRecursion (IsInRange 48 57) bs → digits_on n bs ≡ Some (read_on n bs)
 unfolding read_on
 digits_back n [] h = refl
 digits_back n (b ∷ bs) h = let i = h.0 in let e : is_digit b ≡ true = grind (arith, nat_tests) in rw e (digits_back (n * 10 + (b - 48)) bs h.1)
@@ -88,7 +88,7 @@ signed_in (b ∷ bs) z e l =
     (λ h. plus_in (b ∷ bs) (natural_of (b ∷ bs)) z refl (rw h.0 at e) l)
     (eqb_tells b 45)
 
-no_minus : (ds : List ℕ) → All (IsInRange 48 57) ds → signed_of ds ≡ as_positive (natural_of ds)
+no_minus : (ds : List ℕ) → AllByRecursion (IsInRange 48 57) ds → signed_of ds ≡ as_positive (natural_of ds)
 no_minus [] h = refl
 no_minus (b ∷ bs) h = let i = h.0 in grind (arith, nat_tests)
 
@@ -112,7 +112,7 @@ unfolding digits
 small_from_fits (pos n) e = few_digits 64 6 n [] (omega arith) (omega (arith, leb-true _ 6 e))
 small_from_fits (negsuc n) e = omega (arith, few_digits 64 6 (suc n) [] (omega arith) (omega (arith, leb-true _ 6 e)))
 
-bytes_over : (z : ℤ) → mag z < 10 ^ 6 → All (λ b. 32 < b) (signed_decimal z)
+bytes_over : (z : ℤ) → mag z < 10 ^ 6 → AllByRecursion (λ b. 32 < b) (signed_decimal z)
 bytes_over (pos n) l = All-weaker (IsInRange 48 57) (λ b. 32 < b) (λ b i. omega arith) (decimal n) (digits_decimal own n (omega arith))
 bytes_over (negsuc n) l = (omega arith, All-weaker (IsInRange 48 57) (λ b. 32 < b) (λ b i. omega arith) (decimal (suc n)) (digits_decimal own (suc n) (omega arith)))
 
@@ -126,7 +126,7 @@ spaces_in (b ∷ bs) us e =
     (λ h. (0, rw h.0 at e))
     (eqb_tells b 32)
 
-spaces_back : (k : ℕ) (us : List ℕ) → All (λ b. 32 < b) us → unspaced (replicate k 32 ++ us) ≡ us
+spaces_back : (k : ℕ) (us : List ℕ) → AllByRecursion (λ b. 32 < b) us → unspaced (replicate k 32 ++ us) ≡ us
 spaces_back zero [] h = refl
 spaces_back zero (b ∷ us) h = let i = h.0 in grind (arith, nat_tests)
 spaces_back (suc k) us h = spaces_back k us h
@@ -149,10 +149,10 @@ columns_back z e =
     let l = small_from_fits z e in
     rw (eq-eqb (length (columns z)) 6 (length_columns z e), spaces_back (6 - length (signed_decimal z)) (signed_decimal z) (bytes_over z l)) (signed_back z l)
 
-over_spaces : (k : ℕ) → All (λ b. 10 < b) (replicate k 32)
+over_spaces : (k : ℕ) → AllByRecursion (λ b. 10 < b) (replicate k 32)
 over_spaces zero = tt
 over_spaces (suc k) = (omega arith, over_spaces k)
 
 -- no byte 10 stands in it
-pub columns_over : (z : ℤ) → fits z ≡ true → All (λ b. 10 < b) (columns z)
+pub columns_over : (z : ℤ) → fits z ≡ true → AllByRecursion (λ b. 10 < b) (columns z)
 columns_over z e = All-append (λ b. 10 < b) (replicate (6 - length (signed_decimal z)) 32) (signed_decimal z) (over_spaces (6 - length (signed_decimal z))) (All-weaker (λ b. 32 < b) (λ b. 10 < b) (λ b l. omega arith) (signed_decimal z) (bytes_over z (small_from_fits z e)))

@@ -1,6 +1,6 @@
 -- A text and its lines: a text that stands is the rendering of its lines, and lines that fit are those of their rendering.
 use Rattle.std.proofs.Common.{◌≡◌, ℕ, zero, suc, ◌+◌, ◌-◌, ◌*◌, ◌/◌, ◌%◌, ◌<◌, Bool, true, false, cond, ◌&&◌, eqb, leb, List, [], ◌∷◌, ◌++◌, map, length, get_or, take, drop, ℤ, pos, is_some, Some, None, Ok, Err, Option, Result, unwrap_or, sym, refl, ap, ◌∙◌, ⊎_elim, append_assoc, arith, length-append, length-drop}
-use Rattle.std.specs.List.{flat_map, AllByRecursion as All}
+use Rattle.std.specs.List.{flat_map, AllByRecursion}
 use Rattle.std.proofs.lemmas.Bool.{and_parts, cases_Bool, eqb-true, ne_eqb}
 use Rattle.std.proofs.lemmas.Bool.Decides.{eqb_tells}
 use Rattle.std.proofs.lemmas.List.{take-append-drop, take_at, drop_at, nil_from_length}
@@ -84,7 +84,7 @@ fields_in (suc m) fs l e =
     let r = fields_in m (drop 6 fs) (simp length-drop (omega arith)) b.1 in
     ((λ i. sym c.0 i ++ r.0 i) ∙ take-append-drop 6 fs, ap (λ t. t && each_fits (numbers m (drop 6 fs))) c.1 ∙ r.1)
 
-fields_back : (zs : List ℤ) → each_fits zs ≡ true → (numbers_in (flat_map columns zs) ≡ zs) × All (λ b. 10 < b) (flat_map columns zs)
+fields_back : (zs : List ℤ) → each_fits zs ≡ true → (numbers_in (flat_map columns zs) ≡ zs) × AllByRecursion (λ b. 10 < b) (flat_map columns zs)
 fields_back [] e = (refl, tt)
 fields_back (z ∷ zs) e =
     let b = and_parts (fits z) (each_fits zs) e in
@@ -119,7 +119,7 @@ line_in n (a ∷ b ∷ c ∷ fs) e =
     let q = and_parts (eqb ((m - 3) % 6) 0) (leb (m - 3) 54) (and_parts (leb 3 m) _ p.0).1 in
     worded_in n a b c (word_of a b c) fs refl (omega (arith, eqb-true ((m - 3) % 6) 0 q.0)) p.1
 
-cut_line : (l bs : List ℕ) → All (λ b. 10 < b) l → lines_in (l ++ 10 ∷ bs) ≡ (true, l) ∷ lines_in bs
+cut_line : (l bs : List ℕ) → AllByRecursion (λ b. 10 < b) l → lines_in (l ++ 10 ∷ bs) ≡ (true, l) ∷ lines_in bs
 cut_line [] bs h = refl
 cut_line (b ∷ l) bs h = let i = h.0 in rw (ne_eqb b 10 (λ q. omega arith)) (ap (longer b) (cut_line l bs h.1))
 
