@@ -1,21 +1,14 @@
 #!/usr/bin/env python3
-"""Writes a journal of program texts and of sheets to standard output.
+"""Writes a journal of program texts, good and damaged, to standard output.
 
-    generate.py --start N --texts K --sheets M
+    generate.py --start N --texts K
 
-The same start number and counts always give the same journal.  Its parts:
-
-- some calls before any sheet is made, and before any text is accepted;
-- K texts, good and damaged: those written by hand come first; random ones, and
-  random damage to them, fill up to the count.  Between them stand other calls
-  and lines that are no calls;
-- the sheets written by hand, then M random ones;
-- a sheet whose pass is left open, and the last of the K texts, which lacks its
-  final byte 10; only the end of a journal can hold either.
-
-A comment before each text says what it is and, where that is known without
-running anything, what the answer must be; one before each sheet says what is
-done with it.
+The same start number and count always give the same journal.  The texts
+written by hand come first; random ones, and random damage to them, fill up to
+the count.  The last text is one without its final byte 10, which only the
+end of a journal can hold.  A comment before each text says what it is and,
+where that is known without running anything, what the answer must be.
+Between the texts stand some lines that are no calls.
 """
 
 from __future__ import annotations
@@ -28,14 +21,12 @@ from typing import Callable, Iterator, Sequence
 
 from catalogue import LIST_SUM, catalogue
 from damage import DAMAGES, UNKNOWN_ANSWERS
-from random_sheets import random_scenes
 from rows import Case, Row, fault, render, rows
-from sheet_catalogue import closing_scene, opening_scenes, sheet_scenes
-from steps import TEXT_END, Scene, scene_bytes, writable
 from wellformed import FUNCTIONS_MOST, STEPS_MOST, any_sheet, full_sheet
 
-# Calls on whatever sheet there is, and lines that are no calls.
-STRAYS = (
+TEXT_END = b"."
+
+NO_CALLS = (
     b"make 7 10 tagrange", b"make 65535 512 renumbering", b"open", b"post 0 6",
     b"post 1 empty", b"post 2 cell 0 3", b"withdraw", b"settle", b"book 4 1 25", b"turn 9",
     b"result", b"line 0", b"listing", b"audit", b".", b"..", b"text ", b" text", b"text 1",
@@ -45,9 +36,6 @@ STRAYS = (
     b"text: accepted 1 functions 2 steps", b"0", b"-1", b"?", b"exit", b"a" * 300,
 )
 PASSED_OVER = (b"", b"#", b"# text", b"#text", b"##", b"#\xff\x00", b"")
-
-
-# --- texts ----------------------------------------------------------------
 
 
 def cases(start: int, count: int) -> list[Case]:
@@ -66,6 +54,11 @@ def all_but_last(rng: Random) -> Iterator[Case]:
         one = maker(rng)
         if writable(one.text):
             yield one
+
+
+def writable(text: bytes) -> bool:
+    """Whether a journal can hold this text with more behind it."""
+    return TEXT_END not in text.split(b"\n") and text[-1:] in (b"", b"\n")
 
 
 def good(rng: Random) -> Case:
@@ -111,53 +104,37 @@ def unended(parts: Sequence[Row], note: str) -> Case:
     return Case(note, render(parts)[:-1], fault(1, len(parts)))
 
 
-def text_bytes(number: int, one: Case) -> bytes:
-    """A text as it stands in a journal, behind a comment, up to where it ends."""
-    answer = f": {one.expected}" if one.expected else ""
-    return f"# {number}. {one.note}{answer}\n".encode("ascii") + b"text\n" + one.text
-
-
-def with_strays(start: int, found: Sequence[Case]) -> Iterator[bytes]:
-    """Texts, with lines between them that are passed over, other calls, and no calls."""
+def journal(start: int, count: int) -> bytes:
+    """The journal of the texts, with comments and lines that are no calls."""
     rng = Random(start)
-    strays = list(STRAYS)
+    pieces = [b"# Program texts, good and damaged.\n"]
+    strays = list(NO_CALLS)
+    found = cases(start, count)
     for number, one in enumerate(found, 1):
         if rng.random() < 0.2:
-            yield rng.choice(PASSED_OVER) + b"\n"
+            pieces.append(rng.choice(PASSED_OVER) + b"\n")
         if rng.random() < 0.2:
-            yield (strays.pop(0) if strays else rng.choice(STRAYS)) + b"\n"
-        yield text_bytes(number, one) + TEXT_END + b"\n"
-
-
-# --- the journal ----------------------------------------------------------
-
-
-def sheets(start: int, count: int) -> list[Scene]:
-    """The sheets behind the texts, so many of them random."""
-    return [*sheet_scenes(), *random_scenes(Random(start), count), closing_scene()]
-
-
-def journal(start: int, texts: int, sheet_count: int) -> bytes:
-    """The whole journal."""
-    *found, last = cases(start, texts)
-    pieces = [b"# Before any sheet and any text.\n", *scene_bytes(opening_scenes(), "Opening")]
-    pieces += [b"# Program texts, good and damaged.\n", *with_strays(start, found)]
-    pieces += [b"# Sheets.\n", *scene_bytes(sheets(start, sheet_count), "Sheet")]
-    return b"".join(pieces) + text_bytes(texts, last)
+            line = strays.pop(0) if strays else rng.choice(NO_CALLS)
+            pieces.append(line + b"\n")
+        answer = f": {one.expected}" if one.expected else ""
+        pieces.append(f"# {number}. {one.note}{answer}\n".encode("ascii"))
+        pieces.append(b"text\n" + one.text)
+        if number < len(found):
+            pieces.append(TEXT_END + b"\n")
+    return b"".join(pieces)
 
 
 def main() -> None:
     """Reads the options and writes the journal."""
-    parser = argparse.ArgumentParser(description="write a journal of program texts and sheets")
+    parser = argparse.ArgumentParser(description="write a journal of program texts")
     parser.add_argument(
         "--start", type=int, required=True, help="start number of the random source"
     )
     parser.add_argument("--texts", type=int, required=True, help="how many texts, at least 1")
-    parser.add_argument("--sheets", type=int, required=True, help="how many random sheets")
     options = parser.parse_args()
-    if options.texts < 1 or options.sheets < 0:
-        parser.error("--texts must be at least 1, --sheets at least 0")
-    sys.stdout.buffer.write(journal(options.start, options.texts, options.sheets))
+    if options.texts < 1:
+        parser.error("--texts must be at least 1")
+    sys.stdout.buffer.write(journal(options.start, options.texts))
 
 
 if __name__ == "__main__":

@@ -4,9 +4,6 @@ Most texts of `wellformed.py` read nothing when run, or never end.  Here the
 functions are made as they are named: a NEW or a tail asks for a function of
 some kinds, which mostly is a further one, now and then one that is there
 already.  So most runs end, and there are recursions all the same.
-
-Wide programs are made in the same way, with as many arguments and registers
-everywhere as there may be.
 """
 
 from __future__ import annotations
@@ -21,10 +18,6 @@ NUMBER, NUMBER_CELL, LIST_CELL = 1, 2, 3
 NUMBER_INPUTS, LIST_INPUTS = 3, 5
 FUNCTIONS_MOST = 24
 ARGUMENTS_MOST = 4  # a CAS puts a head and a tail in front of them
-
-WIDE_FUNCTIONS_MOST = 12
-REGISTERS_MOST = 16
-PARAMETERS_MOST = 6
 LITERALS = (0, 1, 2, -1, 5, -99999, 999999)
 
 Signature = tuple[int, tuple[int, ...]]  # kinds of the result and the parameters
@@ -32,17 +25,8 @@ Signature = tuple[int, tuple[int, ...]]  # kinds of the result and the parameter
 
 def lively_text(rng: Random) -> bytes:
     """The text of a random program with three numbers and five lists as inputs."""
-    return text_of(rng, _Maker(rng), rng.randint(1, 5))
-
-
-def wide_text(rng: Random) -> bytes:
-    """The same with six inputs given, six arguments everywhere, and sixteen registers."""
-    return text_of(rng, _WideMaker(rng), PARAMETERS_MOST)
-
-
-def text_of(rng: Random, maker: _Maker, count: int) -> bytes:
-    """The text of a program that is given so many inputs."""
-    given = [rng.randrange(NUMBER_INPUTS + LIST_INPUTS) for _ in range(count)]
+    maker = _Maker(rng)
+    given = [rng.randrange(NUMBER_INPUTS + LIST_INPUTS) for _ in range(rng.randint(1, 5))]
     kinds = tuple(NUMBER_CELL if i < NUMBER_INPUTS else LIST_CELL for i in given)
     maker.ask(rng.choice((NUMBER_CELL, LIST_CELL)), kinds)
     head = [Row("INP", (NUMBER_INPUTS, LIST_INPUTS)), Row("RUN", tuple(given))]
@@ -51,8 +35,6 @@ def text_of(rng: Random, maker: _Maker, count: int) -> bytes:
 
 class _Maker:
     """Writes functions as long as some are asked for and not written."""
-
-    functions_most = FUNCTIONS_MOST
 
     def __init__(self, rng: Random) -> None:
         self.rng = rng
@@ -63,7 +45,7 @@ class _Maker:
         """A function of these kinds, or None if there is none and no room."""
         wanted = (result, parameters)
         same = [f for f, signature in enumerate(self.signatures) if signature == wanted]
-        room = len(self.signatures) < self.functions_most
+        room = len(self.signatures) < FUNCTIONS_MOST
         if same and (not room or self.rng.random() < self.again):
             return self.rng.choice(same)
         if not room:
@@ -84,7 +66,9 @@ class _Maker:
 
     def body(self, result: int, kinds: list[int]) -> list[Row]:
         """Some commands and a tail."""
-        body = self.commands(kinds)
+        body = []
+        for _ in range(self.rng.choice((0, 0, 1, 1, 2))):
+            body.append(self.command(kinds))
         tail = self.reading_tail(result, kinds) if self.rng.random() < 0.85 else None
         if tail is None:
             if result == NUMBER_CELL and NUMBER not in kinds:
@@ -92,27 +76,15 @@ class _Maker:
             tail = self.writing_tail(result, kinds)
         return [*body, tail]
 
-    def commands(self, kinds: list[int]) -> list[Row]:
-        """Some commands; the kinds of their registers are added."""
-        return [self.command(kinds) for _ in range(self.rng.choice((0, 0, 1, 1, 2)))]
-
     def command(self, kinds: list[int]) -> Row:
         """A command; the kind of its register is added."""
-        made = self.new(kinds) if self.rng.random() < 0.5 else None
-        return made or self.calculation(kinds)
-
-    def new(self, kinds: list[int]) -> Optional[Row]:
-        """A NEW, if there is room for the function that it names."""
-        result = self.rng.choice((NUMBER_CELL, LIST_CELL))
-        arguments = self.arguments(kinds, PARAMETERS_MOST)
-        function = self.ask(result, tuple(kinds[r] for r in arguments))
-        if function is None:
-            return None
-        kinds.append(result)
-        return Row("NEW", (function, *arguments))
-
-    def calculation(self, kinds: list[int]) -> Row:
-        """A literal or an operation."""
+        if self.rng.random() < 0.5:
+            result = self.rng.choice((NUMBER_CELL, LIST_CELL))
+            arguments = self.arguments(kinds)
+            function = self.ask(result, tuple(kinds[r] for r in arguments))
+            if function is not None:
+                kinds.append(result)
+                return Row("NEW", (function, *arguments))
         if NUMBER not in kinds or self.rng.random() < 0.2:
             return self.literal(kinds)
         pair = self.some(kinds, NUMBER), self.some(kinds, NUMBER)
@@ -127,8 +99,8 @@ class _Maker:
         """A register of this kind, which must be there."""
         return self.rng.choice([r for r, one in enumerate(kinds) if one == kind])
 
-    def arguments(self, kinds: Sequence[int], most: int) -> list[int]:
-        """Some registers, in any order; fewer than there may be."""
+    def arguments(self, kinds: Sequence[int]) -> list[int]:
+        """Some registers, in any order."""
         count = min(len(kinds), self.rng.randint(1, ARGUMENTS_MOST))
         return self.rng.sample(range(len(kinds)), count)
 
@@ -138,12 +110,12 @@ class _Maker:
         if not sources:
             return None
         source = self.rng.choice(sources)
+        arguments = self.arguments(kinds)
+        given = tuple(kinds[r] for r in arguments)
         if kinds[source] == NUMBER_CELL:
             word, fronts = "GET", ((NUMBER,),)
         else:
             word, fronts = "CAS", ((), (NUMBER_CELL, LIST_CELL))
-        arguments = self.arguments(kinds, PARAMETERS_MOST - len(fronts[-1]))
-        given = tuple(kinds[r] for r in arguments)
         entered = [self.ask(result, front + given) for front in fronts]
         return None if None in entered else Row(word, (source, *entered, *arguments))
 
@@ -154,21 +126,3 @@ class _Maker:
         if {NUMBER_CELL, LIST_CELL} <= set(kinds) and self.rng.random() < 0.8:
             return Row("CON", (self.some(kinds, NUMBER_CELL), self.some(kinds, LIST_CELL)))
         return Row("NIL")
-
-
-class _WideMaker(_Maker):
-    """As many arguments as there may be, and commands up to the last register."""
-
-    functions_most = WIDE_FUNCTIONS_MOST
-
-    def commands(self, kinds: list[int]) -> list[Row]:
-        """Commands for all registers left, the first of them a literal."""
-        written = [self.literal(kinds)]
-        while len(kinds) < REGISTERS_MOST:
-            made = self.new(kinds) if self.rng.random() < 0.15 else None
-            written.append(made or self.calculation(kinds))
-        return written
-
-    def arguments(self, kinds: Sequence[int], most: int) -> list[int]:
-        """So many registers, in any order."""
-        return self.rng.sample(range(len(kinds)), min(most, len(kinds)))

@@ -15,7 +15,6 @@ from collections import Counter
 from random import Random
 from typing import Optional, Sequence
 
-import families
 import tried
 import wellformed
 from catalogue import COPY_LIST, ENDLESS, LIST_SUM, PRICE_TIMES_COUNT
@@ -57,12 +56,28 @@ MADE_BEFORE_THE_READ = (
     "FUN 3 1 2 3; CON 1 2;"
     "FUN 2 1; PUT 0; FUN 2; LIT 0; PUT 0; FUN 2 2 3; GET 0 3; FUN 3; NIL"
 )
-# Programs over four numbers and six lists; input 4 is the list, input 5 the second one.
-OVER_A_LIST = "INP 4 6; RUN 4;"
-APPEND = f"INP 4 6; RUN 4 5; {families.APPEND}"
-REVERSE = f"{OVER_A_LIST} {families.REVERSE}"
-CARRIED_SUM = f"{OVER_A_LIST} {families.LEFT_FOLD.format(op='ADD', literal=0)}"
-SUM_OF_DOUBLES = f"{OVER_A_LIST} {families.SUM_OF_DOUBLES}"
+# The heads of the first list, then the second list.
+APPEND = (
+    "INP 4 6; RUN 4 5; FUN 3 3 3; CAS 0 1 2 1; FUN 3 3; CAS 0 3 4; FUN 3 2 3 3; NEW 0 1 2;"
+    "CON 0 3; FUN 3; NIL; FUN 3 2 3; CON 0 1"
+)
+# The list turned round, by way of a second list that grows.
+REVERSE = (
+    "INP 4 6; RUN 4; FUN 3 3; NEW 3; CAS 0 1 2 1; FUN 3 3; CAS 0 3 4; FUN 3 2 3 3; NEW 4 0 2;"
+    "CAS 1 1 2 3; FUN 3; NIL; FUN 3 2 3; CON 0 1"
+)
+# The sum, carried along as a number.
+CARRIED_SUM = (
+    "INP 4 6; RUN 4; FUN 2 3; LIT 0; CAS 0 1 2 1; FUN 2 1; PUT 0; FUN 2 2 3 1; GET 0 3 1 2;"
+    "FUN 2 1 3 1; ADD 0 2; CAS 1 1 2 3"
+)
+# The sum of a list that is itself made: each number doubled.
+SUM_OF_DOUBLES = (
+    "INP 4 6; RUN 4; FUN 2 3; NEW 5 0; CAS 1 1 2; FUN 2; LIT 0; PUT 0; FUN 2 2 3; NEW 9 1;"
+    "GET 0 3 2; FUN 2 1 2; GET 1 4 0; FUN 2 1 1; ADD 0 1; PUT 2;"
+    "FUN 3 3; CAS 0 6 7; FUN 3; NIL; FUN 3 2 3; NEW 8 0; NEW 5 1; CON 2 3; FUN 2 2; GET 0 10;"
+    "FUN 2 3; CAS 0 1 2; FUN 2 1; ADD 0 0; PUT 1"
+)
 WIDE_SUM = LIST_SUM.replace("INP 2 3; RUN 2", "INP 4 6; RUN 4")
 WIDE_COPY = COPY_LIST.replace("INP 3 4; RUN 6", "INP 4 6; RUN 4")
 LIST_PROGRAMS = (WIDE_SUM, WIDE_COPY, APPEND, REVERSE, CARRIED_SUM, SUM_OF_DOUBLES)

@@ -45,12 +45,12 @@ pub data Call : Type 0 where
   LINE : Pass → ℕ → Call
 
 -- why a call is refused
---   wrong-pass      the pass bears another number, or the sheet is in another state
---   no-such-input   there is no such input
---   other-kind      a content of the other kind
---   wrong-cell      a cell naming an input that is missing or of the wrong kind
---   bookings-full   64 bookings wait, and none has this day and input
---   no-such-line    no record has this number
+--   wrong_pass      the pass bears another number, or the sheet is in another state
+--   no_such_input   there is no such input
+--   other_kind      a content of the other kind
+--   wrong_cell      a cell naming an input that is missing or of the wrong kind
+--   bookings_full   64 bookings wait, and none has this day and input
+--   no_such_line    no record has this number
 pub data Refusal : Type 0 where
   wrong_pass no_such_input other_kind wrong_cell bookings_full no_such_line : Refusal
 

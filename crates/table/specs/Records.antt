@@ -18,7 +18,7 @@ blank = record { entry = Blank; start = 0; end = 0 }
 
 -- what an entry says besides the content of its modifiable
 --   free              nothing
---   a-new f vs        a NEW: f with the arguments vs
+--   a_new f vs        a NEW: f with the arguments vs
 --   a_read s b x d    a read of s by b, which took x, inside the NEW at the place d
 --   gone              a record that was dropped
 pub data Sort : Type 0 where

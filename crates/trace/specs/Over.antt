@@ -9,10 +9,10 @@ use Rattle.trace.specs.Run.{Run, initial}
 use Rattle.program.specs.declared.value.InputContent.{InputContent}
 
 -- `Over P c σ ps k`: the run of the code c from the store σ begins k records, at the places ps, and then one more
---   one-made, one-read   the first record is the one more
---   over-inside          it begins inside the first record, a NEW at n
---   over-behind          it begins behind the first record, a NEW at n inside which `inner` stands
---   over-read            it begins inside the first record, a read at n
+--   one_made, one_read   the first record is the one more
+--   over_inside          it begins inside the first record, a NEW at n
+--   over_behind          it begins behind the first record, a NEW at n inside which `inner` stands
+--   over_read            it begins inside the first record, a read at n
 pub data Over (P : View) : Code → Store → List ℕ → ℕ → Type 0 where
   one_made : {c k : Code} {σ : Store} {f : ℕ} {vs : List Value} → next P c ≡ makes f vs k → Over P c σ [] 0
   one_read : {c : Code} {σ : Store} {s : Name} {b : Reader} → next P c ≡ reads s b → Over P c σ [] 0

@@ -11,10 +11,10 @@ use Rattle.trace.specs.Run.{Kept, Run}
 -- `Turns P old σ t u e m`: from the store σ the records of the trace t have their turns in order, and u stands afterwards;
 -- e reads are re-executed (E), and m records are made inside them (M), at none of the places `old`, where records stood
 -- before the settle
---   at-write      there is nothing left to have a turn
---   past-new      a NEW stands: what is inside it has its turns, and then what is behind it
+--   at_write      there is nothing left to have a turn
+--   past_new      a NEW stands: what is inside it has its turns, and then what is behind it
 --   kept          the source of the read holds the content it took: it is kept, and what is inside it has its turns
---   re-executed   its source holds y, another content than the x it took: it is stale. The records inside it are dropped, it
+--   re_executed   its source holds y, another content than the x it took: it is stale. The records inside it are dropped, it
 --                 takes y and runs as in the plain run; the next turn falls to the first record behind it
 pub data Turns (P : View) (old : List ℕ) : Store → Trace → Trace → ℕ → ℕ → Type 0 where
   at_write : {σ : Store} {x : Content} → Turns P old σ (write x) (write x) 0 0
@@ -113,8 +113,8 @@ pub record ReadOut {P : View} {old : List ℕ} {σ : Store} {t u : Trace} {e m :
 
 -- `ReExecutes P old σ t u m`: the earliest stale read of t is re-executed, which leaves u; m records are made inside it
 --   here      it is the first record
---   in-read   it is inside the first record, a read that is kept
---   in-new    it is inside the first record, a NEW
+--   in_read   it is inside the first record, a read that is kept
+--   in_new    it is inside the first record, a NEW
 --   behind    it is behind the first record, a NEW inside which each read is kept
 pub data ReExecutes (P : View) (old : List ℕ) : Store → Trace → Trace → ℕ → Type 0 where
   here : {σ : Store} {n : ℕ} {s : Name} {b : Reader} {x y : Content} {rest rest' : Trace} {m : ℕ} →
