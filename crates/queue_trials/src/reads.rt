@@ -10,6 +10,7 @@ use queue::refusal::QueueRefusal;
 use queue::stale::{StaleOrder, StaleRead};
 
 /// Queues a read: where all start stamps are members, the queue stays a heap.
+#[tactic(auto, using(crate::proofs::Queued::where_sound))]
 pub fn queue_read<O: OrderList>(
     list: &O,
     places: &mut [StaleRead],
