@@ -12,7 +12,12 @@ invariant_of-self c =
     let f = c.in-Some.ensures in
     let h = heaped_is (take s.count s.places) s.heaped in
     let e = sym c.replace.ensures in
-    let long : s.count ≤ length s.places = omega arith in record { sized = (omega (arith, c.replace.auto), omega arith); heaped = ∣ subst (λ (l : List Booking). Heaped sooner (take s.count l)) e (replaced_heaped s.places s.count c.args.b long h s.once c.in-Some.k f.0 f.1) ∣₁; once = subst (λ (l : List Booking). Once sooner (take s.count l)) e (replaced_once s.places s.count c.args.b long h s.once c.in-Some.k f.0 f.1) }
+    let long : s.count ≤ length s.places = omega arith in
+    record {
+      sized = (omega (arith, c.replace.auto), omega arith);
+      heaped = ∣ subst (λ (l : List Booking). Heaped sooner (take s.count l)) e (replaced_heaped s.places s.count c.args.b long h s.once c.in-Some.k f.0 f.1) ∣₁;
+      once = subst (λ (l : List Booking). Once sooner (take s.count l)) e (replaced_once s.places s.count c.args.b long h s.once c.in-Some.k f.0 f.1);
+    }
 
 pub returns-in-Some : goal.returns-in-Some
 returns-in-Some c =
@@ -30,7 +35,12 @@ invariant_of-self-in-Ok c =
     let f = c.in_default.ensures in
     let h = heaped_is (take s.count s.places) s.heaped in
     let long : s.count ≤ length s.places = omega arith in
-    let few = ltb-true s.count (length s.places) (sym e.test) in record { sized = (omega arith, omega arith); heaped = ∣ subst (λ (i : ℕ). Heaped sooner (take i c.put.new.heap)) (sym e.items.0) (e.heaped (λ k d l. tt) h) ∣₁; once = subst (λ (i : ℕ). Once sooner (take i c.put.new.heap)) (sym e.items.0) (added_once s.places s.count c.args.b long h s.once f (take (s.count + 1) c.put.new.heap) e.items.1) }
+    let few = ltb-true s.count (length s.places) (sym e.test) in
+    record {
+      sized = (omega arith, omega arith);
+      heaped = ∣ subst (λ (i : ℕ). Heaped sooner (take i c.put.new.heap)) (sym e.items.0) (e.heaped (λ k d l. tt) h) ∣₁;
+      once = subst (λ (i : ℕ). Once sooner (take i c.put.new.heap)) (sym e.items.0) (added_once s.places s.count c.args.b long h s.once f (take (s.count + 1) c.put.new.heap) e.items.1);
+    }
 
 pub returns-in-Ok : goal.returns-in-Ok
 returns-in-Ok c =

@@ -15,7 +15,11 @@ invariant_of-self c =
     let n = c.args.self.now.count in
     let e = c.in-Some.ensures in
     let t = takes c.args.self.now.places c.take.new.heap c.in-Some.first n (omega arith) c.args.self.now.heaped e.items (e.first (λ k d l. tt)) in
-    rw c.one_less-self.ensures record { sized = (omega arith, omega arith); heaped = ∣ t.heaped ∣₁; once = taken_once (take n c.args.self.now.places) c.args.self.now.once c.in-Some.first (take (n - 1) c.take.new.heap) t.items t.first }
+    rw c.one_less-self.ensures (record {
+      sized = (omega arith, omega arith);
+      heaped = ∣ t.heaped ∣₁;
+      once = taken_once (take n c.args.self.now.places) c.args.self.now.once c.in-Some.first (take (n - 1) c.take.new.heap) t.items t.first;
+    })
 
 pub returns-else-not-is_due : goal.returns-else-not-is_due
 returns-else-not-is_due c =
