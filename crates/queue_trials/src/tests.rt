@@ -4,7 +4,6 @@ use program::value::InputContent;
 use queue::booking::{Booking, BookingOrder};
 use queue::bookings::{Bookings, MOST_BOOKINGS};
 use queue::heap::{put, take};
-use std::test::Fail;
 
 #[test]
 fn thousand_drained_in_order(rt: HostRuntime) {
@@ -15,17 +14,11 @@ fn thousand_drained_in_order(rt: HostRuntime) {
 }
 
 #[test]
-fn full_queue_refuses(rt: HostRuntime) -> Result<(), Fail> {
+fn full_queue_refuses(rt: HostRuntime) {
     let mut heap = [of_day(7); 3];
     match put(&BookingOrder, &mut heap, 3, of_day(1)) {
-        Ok(_) => {
-            assert!(rt; false);
-            Ok(())
-        },
-        Err(refusal) => {
-            assert!(rt; refusal.number() == 35);
-            Ok(())
-        },
+        Ok(_) => assert!(rt; false),
+        Err(refusal) => assert!(rt; refusal.number() == 35),
     }
 }
 
