@@ -115,6 +115,7 @@ ran_anew {g = g} {L} {n} {P} {a} {a₁} {b} {x₁} {x} c r sound same e =
       stands = run_stands st c.room c.same r;
       counted = k.0;
       fits = k.1;
+      room = omega (arith, c.room, r.room, e);
       holding = record { in_order = sound; standing = subst (λ (s : ℕ). Standing L s b (g.order x) r.trace) (sym same) (run_standing st c.room c.same r) };
       same = same_trans c.same r.same;
     }
@@ -123,6 +124,7 @@ pub exceeded : {X : Type 0} {g : Ghosts X} {L : ℕ} {P : View} {a a₁ b d : Ta
     Cleared g L a a₁ x₁ → Exceeds P (main P) a₁ → SameInputs a₁ b → Cleared g L b d x → Exceeded g P L a d x
 exceeded c h k e = record {
   begins_more = run_begins_more c.holding.standing c.room c.same h;
+  room = e.room;
   holding = e.holding;
   same = same_trans (same_trans c.same k) e.same;
 }

@@ -49,18 +49,20 @@ Zeros P is = (k : ℕ) → slice_index_or is k Empty ≡ cond (nat_lt k P.number
 
 -- ── a run of the whole program ──
 
--- it made s records, at most L, and its trace stands on the inputs
+-- it made s records, at most L, and its trace stands on the inputs; as many more may be made as L leaves
 pub record RanAnew {X : Type 0} (g : Ghosts X) (P : View) (L : ℕ) (a b : Table) (x : X) (s : ℕ) : Type 0 where
   pub trace : Trace
   pub stands : Stands P a.inputs trace
   pub counted : s ≡ size trace
   pub fits : s ≤ L
+  pub room : b.room + s ≡ L
   pub holding : Holding g L b x trace
   pub same : SameInputs a b
 
--- it begins more than L records, and nothing stands
+-- it begins more than L records, and nothing stands; L records may be made
 pub record Exceeded {X : Type 0} (g : Ghosts X) (P : View) (L : ℕ) (a b : Table) (x : X) : Type 0 where
   pub begins_more : BeginsMore L P a.inputs
+  pub room : b.room ≡ L
   pub holding : Holding g L b x nothing
   pub same : SameInputs a b
 
