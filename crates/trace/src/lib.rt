@@ -9,19 +9,17 @@ ghost use Rattle.trace.specs.Laws.{TurnsCountAlike, CountsOfThePlainRun, KeepsPl
 ghost use Rattle.trace.specs.Tried.{TriedSheetsHold};
 
 // A trace that stands on inputs shows the plain run of them, wherever its records stand, and 'too large' is exact.
-pub fn plain_run_is_shown() -> u8
+pub fn plain_run_is_shown()
     ensures shown { ShowsThePlainRun }
     ensures stands { PlainRunStands }
     ensures too_large { TooLargeMeans }
     ensures lines { OneLineEach }
     ensures stamps { TwoStampsEach }
     ensures ends { LinesTellEnds }
-{
-    0
-}
+{}
 
 // Settling by turns leaves a trace that stands, and its E and M are determined.
-pub fn turns_settle() -> u8
+pub fn turns_settle()
     ensures leaves { TurnsLeaveARun }
     ensures earliest { ReExecutingIsSettling }
     ensures ends { ReExecutingEnds }
@@ -30,13 +28,9 @@ pub fn turns_settle() -> u8
     ensures by_value { CountsOfThePlainRun }
     ensures places { KeepsPlaces }
     ensures unchanged { UnchangedInputs }
-{
-    0
-}
+{}
 
 // The tried sheets, price times count and list sum, answer as the table says.
-pub fn tried_sheets_hold() -> u8
+pub fn tried_sheets_hold()
     ensures { TriedSheetsHold }
-{
-    0
-}
+{}
