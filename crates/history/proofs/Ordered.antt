@@ -1,3 +1,4 @@
+use Rattle.std.proofs.lemmas.Bool.{and_parts}
 use mathlib.Core.Path.{◌≡◌, refl, sym, ◌∙◌, ap, subst}
 use mathlib.Core.Bool.{Bool, true, false, cond, ◌&&◌}
 use mathlib.Core.List.{List, [], ◌∷◌}
@@ -10,7 +11,7 @@ use borrow.Author.Tests.{both_ways, ltb-true, ltb-false, eqb-true, eqb-false, lt
 use Rattle.history.specs.Calls.{Booking, Call, OPEN, POST, WITHDRAW, SETTLE, BOOK, TURN, RESULT, LINE, Refusal, wrong_pass, bookings_full}
 use Rattle.history.specs.Book.{Book, State, rests, open_since, first_book, unless, or_else, bears, at_rest, unfit, same_key, waits, room, refusal, stands_before, booked, left, opening, withdrawing, change, unless_refused, book_step, book_from}
 use Rattle.history.specs.Bookings.{BeforeAll, InTurn, BookingsInOrder}
-use Rattle.history.proofs.Steps.{unless_true, both_true}
+use Rattle.history.proofs.Steps.{unless_true}
 
 -- as numbers
 data Less (a b c d : ℕ) : Type 0 where
@@ -22,7 +23,7 @@ less x y e = pick (ltb x.day y.day) refl e
   where
     pick : (t : Bool) → ltb x.day y.day ≡ t → cond t true (eqb x.day y.day && ltb x.input y.input) ≡ true → Less x.day x.input y.day y.input
     pick true q h = by_day (ltb-true x.day y.day q)
-    pick false q h = let w = both_true (eqb x.day y.day) (ltb x.input y.input) h in by_input (eqb-true x.day y.day w.0) (ltb-true x.input y.input w.1)
+    pick false q h = let w = and_parts (eqb x.day y.day) (ltb x.input y.input) h in by_input (eqb-true x.day y.day w.0) (ltb-true x.input y.input w.1)
 
 more : (x y : Booking) → Less x.day x.input y.day y.input → stands_before x y ≡ true
 more x y (by_day l) = ap (λ (t : Bool). cond t true (eqb x.day y.day && ltb x.input y.input)) (lt-ltb x.day y.day l)
@@ -67,7 +68,7 @@ before_trans x y (z ∷ zs) e h = (more x z (less_trans (less x y e) (less y z h
 
 -- the same key stands before the same
 same_key_is : (x y : Booking) → same_key x y ≡ true → (x.day ≡ y.day) × (x.input ≡ y.input)
-same_key_is x y e = let w = both_true (eqb x.day y.day) (eqb x.input y.input) e in (eqb-true x.day y.day w.0, eqb-true x.input y.input w.1)
+same_key_is x y e = let w = and_parts (eqb x.day y.day) (eqb x.input y.input) e in (eqb-true x.day y.day w.0, eqb-true x.input y.input w.1)
 
 same_before : (x y : Booking) (zs : List Booking) → same_key x y ≡ true → BeforeAll y zs → BeforeAll x zs
 same_before x y [] e h = tt

@@ -1,4 +1,5 @@
 -- What one call does to the book, to what open noted, and to the trace.
+use Rattle.std.proofs.lemmas.Bool.{and_parts}
 use mathlib.Core.Path.{◌≡◌, refl, sym, ◌∙◌, ap, subst}
 use mathlib.Core.Bool.{Bool, true, false, ◌&&◌, not}
 use mathlib.Core.List.{List}
@@ -18,10 +19,6 @@ use Rattle.history.specs.Sheet.{Sheet, Settled, SettledSo, Serves, RefusedOr, Do
 pub unless_true : (t : Bool) (r : Refusal) (more : Option Refusal) → unless t r more ≡ none → (t ≡ true) × (more ≡ none)
 unless_true true r more e = (refl, e)
 unless_true false r more e = absurd (none-ne-some r (sym e))
-
-pub both_true : (a b : Bool) → (a && b) ≡ true → (a ≡ true) × (b ≡ true)
-both_true true b e = (refl, e)
-both_true false b e = absurd (both_ways false refl e)
 
 -- an open pass that is taken: the sheet is open
 pub is_open : (q : Sort) (s : State) → same_sort q (sort_of s) ≡ true → not (at_rest q) ≡ true → (r : Resting) × (js : List InputContent) × (s ≡ open_since r js)
@@ -76,8 +73,8 @@ withdraw_same s (open_since r js) e = record { sort = ap sort_before (sym e); no
 post_same : (s : Sheet) (q : Pass) (i : ℕ) (x : InputContent) (is : List InputContent) → refusal s.keeps (POST q i x) ≡ none → Same s (record { keeps = with_inputs s.keeps is; trace = s.trace })
 post_same s q i x is e =
     let u = unless_true (bears s.keeps q && not (at_rest q.sort)) wrong_pass (unfit s.keeps.made_of i x) e in
-    let v = both_true (bears s.keeps q) (not (at_rest q.sort)) u.0 in
-    let w = both_true _ (same_sort q.sort (sort_of s.keeps.state)) v.0 in
+    let v = and_parts (bears s.keeps q) (not (at_rest q.sort)) u.0 in
+    let w = and_parts _ (same_sort q.sort (sort_of s.keeps.state)) v.0 in
     let o = is_open q.sort s.keeps.state w.1 v.1 in
     record { sort = refl; noted_inputs = ap (λ (z : State). noted_at z is) o.2 ∙ ap (λ (z : State). noted_at z s.keeps.inputs) (sym o.2); trace = refl }
 

@@ -203,17 +203,11 @@ pub next_two : {ps : Pairs} (P : View) (cs : List CommandView) (t : TailView) {r
 next_two {ps} P cs t h e f = subst₂ (RelNext ps) e f (rel_steps cs t h)
 
 -- what is off the whole is off its parts
-pub off_first : {ps : Pairs} {n m : ℕ} {ns ms : List ℕ} → Off ps (n ∷ ns) (m ∷ ms) → Off ps (n ∷ []) (m ∷ [])
-off_first o = record { off = λ a b h. let k = o.off a b h in ((k.0.0, tt), (k.1.0, tt)) }
-
 pub off_rest : {ps : Pairs} {n m : ℕ} {ns ms : List ℕ} → Off ps (n ∷ ns) (m ∷ ms) → Off ps ns ms
 off_rest o = record { off = λ a b h. let k = o.off a b h in (k.0.1, k.1.1) }
 
 pub off_left : {ps : Pairs} (ns qs ms rs : List ℕ) → Off ps (ns ++ qs) (ms ++ rs) → Off ps ns ms
 off_left ns qs ms rs o = record { off = λ a b h. let k = o.off a b h in (absent_left a ns qs k.0, absent_left b ms rs k.1) }
-
-pub off_right : {ps : Pairs} (ns qs ms rs : List ℕ) → Off ps (ns ++ qs) (ms ++ rs) → Off ps qs rs
-off_right ns qs ms rs o = record { off = λ a b h. let k = o.off a b h in (absent_right a ns qs k.0, absent_right b ms rs k.1) }
 
 among_absent : (n : ℕ) (ps qs : List ℕ) → Distinct (ps ++ qs) → Among n ps → Absent n qs
 among_absent n [] qs d h = absurd h

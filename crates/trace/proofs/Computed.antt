@@ -1,4 +1,5 @@
 -- The computed turns are turns.
+use Rattle.std.proofs.lemmas.Bool.{and_parts}
 use mathlib.Core.Path.{◌≡◌, refl, ap, ap₂, subst}
 use mathlib.Core.Bool.{Bool, true, false, ◌&&◌}
 use mathlib.Core.List.{List, [], ◌∷◌, ◌++◌}
@@ -39,10 +40,6 @@ name_self : (a : Name) → same_name a a ≡ true
 name_self (Input a) = eq-eqb a a refl
 name_self (Made a) = eq-eqb a a refl
 
-pub both_true : (a b : Bool) → (a && b) ≡ true → (a ≡ true) × (b ≡ true)
-both_true true b e = (refl, e)
-both_true false b e = absurd (both_ways false refl e)
-
 pub same_right : (x y : Content) → same x y ≡ true → x ≡ y
 same_right (Number a) (Number b) e = ap Number (number_right a b e)
 same_right (Number a) Empty e = absurd (both_ways false refl e)
@@ -53,7 +50,7 @@ same_right Empty (Cell h t) e = absurd (both_ways false refl e)
 same_right (Cell a b) (Number c) e = absurd (both_ways false refl e)
 same_right (Cell a b) Empty e = absurd (both_ways false refl e)
 same_right (Cell a b) (Cell c d) e =
-    let h = both_true (same_name a c) (same_name b d) e in ap₂ (λ (p q : Name). Cell p q) (name_right a c h.0) (name_right b d h.1)
+    let h = and_parts (same_name a c) (same_name b d) e in ap₂ (λ (p q : Name). Cell p q) (name_right a c h.0) (name_right b d h.1)
 
 pub same_self : (x : Content) → same x x ≡ true
 same_self (Number a) = number_self a

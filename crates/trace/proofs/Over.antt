@@ -1,4 +1,6 @@
 -- 'Too large', exactly: the plain run makes more than L records where a run, whether or not it ends, begins more than L.
+use Rattle.std.proofs.Math.Nat.{add-sub_of_le}
+use Rattle.std.proofs.Common.{◌-◌}
 use mathlib.Core.Path.{◌≡◌, refl, sym, ◌∙◌, ap, ap₂, subst, subst₂}
 use mathlib.Core.List.{List, [], ◌∷◌, ◌++◌, map}
 use mathlib.Core.Logic.{◌⊎◌, inl, inr}
@@ -123,11 +125,6 @@ pub record Ends (P : View) (c : Code) (σ : Store) (i k : ℕ) : Type 0 where
 abbrev pub EndsOrOver : View → Code → Store → ℕ → ℕ → Type 0
 EndsOrOver P c σ i k = Ends P c σ i k ⊎ Over P c σ (count_up i k) k
 
-left_over : (a b : ℕ) → a ≤ b → (j : ℕ) × (a + j ≡ b)
-left_over zero b l = (b, omega arith)
-left_over (suc a) zero l = absurd (omega arith)
-left_over (suc a) (suc b) l = let r = left_over a b (omega arith) in (r.0, omega (arith, r.1))
-
 module _ (P : View) (d : ℕ) (below : (k : ℕ) → k < d → (c : Code) (σ : Store) (i : ℕ) → EndsOrOver P c σ i k) where
   try_behind : (c k' : Code) (f : ℕ) (vs : List Value) (σ : Store) (i k : ℕ) → k < d → next P c ≡ makes f vs k' →
       (A : Ends P (enter P f vs) σ (suc i) k) (j : ℕ) → size A.trace + j ≡ k →
@@ -153,9 +150,9 @@ module _ (P : View) (d : ℕ) (below : (k : ℕ) → k < d → (c : Code) (σ : 
       EndsOrOver P (enter P f vs) σ (suc i) k → EndsOrOver P c σ i (suc k)
   try_inside c k' f vs σ i k l p (inr o) = inr (over_inside i p o)
   try_inside c k' f vs σ i k l p (inl A) =
-      let r = left_over (size A.trace) k A.fits in
-      try_behind c k' f vs σ i k l p A r.0 r.1
-      (below r.0 (omega (arith, l, r.1)) (resume k' i) (put (after A.trace σ) i (written A.trace)) (suc i + size A.trace))
+      let j = k - size A.trace in
+      try_behind c k' f vs σ i k l p A j (add-sub_of_le A.fits)
+      (below j (omega (arith, l)) (resume k' i) (put (after A.trace σ) i (written A.trace)) (suc i + size A.trace))
 
   try_read : (c : Code) (s : Name) (b : Reader) (σ : Store) (i k : ℕ) → next P c ≡ reads s b →
       EndsOrOver P (enter P (entered b (σ s)) (arguments b (σ s))) σ (suc i) k → EndsOrOver P c σ i (suc k)

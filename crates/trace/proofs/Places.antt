@@ -52,9 +52,6 @@ pub distinct_join : (ps qs : List ℕ) → Distinct ps → Distinct qs → ((n :
 distinct_join [] qs h k c = k
 distinct_join (p ∷ ps) qs h k c = (absent_join p ps qs h.0 (c p (inl refl)), distinct_join ps qs h.1 k (λ n z. c n (inr z)))
 
-pub cross_absent : (n : ℕ) (ps qs : List ℕ) → Distinct (ps ++ qs) → Among n ps → Absent n qs
-cross_absent n ps qs d h = not_among n qs (λ m k e. cross n m ps qs d h k (sym e))
-
 pub among_cases : (n : ℕ) (ps qs : List ℕ) → Among n (ps ++ qs) → Among n ps ⊎ Among n qs
 among_cases n [] qs h = inr h
 among_cases n (p ∷ ps) qs (inl e) = inl (inl e)

@@ -1,4 +1,5 @@
 -- Two stamps for each record, the starts in the order in which the records begin; and the ends that the lines tell.
+use Rattle.std.proofs.lemmas.Simd.{map-map}
 use mathlib.Core.Path.{◌≡◌, refl, sym, ◌∙◌, ap, ap₂}
 use mathlib.Core.List.{List, [], ◌∷◌, ◌++◌, map, map-append, append-nil, append_assoc}
 use mathlib.Core.Logic.{inl, inr}
@@ -113,13 +114,9 @@ lines_ends ρ (new n f vs inner rest) d r =
 lines_ends ρ (read n s b x rest) d r =
     ap₂ (λ (x : ℤ) (xs : List ℤ). x ∷ xs) (ap (λ (k : ℕ). pos (suc r + k)) (size_renamed ρ rest)) (lines_ends ρ rest d (suc r))
 
-map_twice : (f : ℕ → ℕ) (ps : List ℕ) → map pos (map f ps) ≡ map (λ (n : ℕ). pos (f n)) ps
-map_twice f [] = refl
-map_twice f (p ∷ ps) = ap (λ (xs : List ℤ). pos (f p) ∷ xs) (map_twice f ps)
-
 pub lines_tell_ends : LinesTellEnds
 lines_tell_ends t d =
     lines_ends (rank t) t 0 0
     ∙ ap (map pos) (sym (ends_behind t 0 [] d)
     ∙ map_at _ (first_behind (stamps t)) (places t) (λ p k. let e = ap (λ (us : List Stamp). first_behind us p) (append-nil (stamps t)) in omega (arith, e)))
-    ∙ map_twice (first_behind (stamps t)) (places t)
+    ∙ map-map pos (first_behind (stamps t)) (places t)

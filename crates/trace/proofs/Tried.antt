@@ -1,4 +1,5 @@
 -- What is computed of the tried sheets holds of runs and of settling by turns.
+use Rattle.std.proofs.lemmas.Bool.{and_parts, not-true}
 use mathlib.Core.Path.{◌≡◌, refl, subst}
 use mathlib.Core.Bool.{Bool, true, false, cond, ◌&&◌, not}
 use mathlib.Core.List.{List, [], ◌∷◌}
@@ -18,7 +19,7 @@ use Rattle.trace.specs.Computed.{Settle, computed_turns, Outcome, settled, too_l
 use Rattle.trace.specs.Tried.{LaterOutcomes, no_more, by_turns, Outcomes, runs_anew, is_too_large, Lists, Case, sheet, lines, operation, cases, Holds, EveryHolds, TriedSheetsHold}
 use Rattle.trace.proofs.Plain.{plain_run_stands}
 use Rattle.trace.proofs.Settled.{turns_leave_a_run}
-use Rattle.trace.proofs.Computed.{both_true, FreeFrom, turns_right}
+use Rattle.trace.proofs.Computed.{FreeFrom, turns_right}
 
 -- ── what the tests say ──
 
@@ -30,20 +31,16 @@ occurs_not n (p ∷ ps) e = pick (occurs_not n ps) (eqb n p) refl e
     pick rec true q h = absurd (both_ways true h refl)
     pick rec false q h = (eqb-false n p q, rec h)
 
-not_true : (z : Bool) → not z ≡ true → z ≡ false
-not_true true e = absurd (both_ways false refl e)
-not_true false e = refl
-
 distinct_right : (ps : List ℕ) → distinct ps ≡ true → Distinct ps
 distinct_right [] e = tt
 distinct_right (p ∷ ps) e =
-    let h = both_true (not (occurs p ps)) (distinct ps) e in
-    (occurs_not p ps (not_true (occurs p ps) h.0), distinct_right ps h.1)
+    let h = and_parts (not (occurs p ps)) (distinct ps) e in
+    (occurs_not p ps (not-true (occurs p ps) h.0), distinct_right ps h.1)
 
 below_free : (i : ℕ) (ps : List ℕ) → below i ps ≡ true → (p : ℕ) → i ≤ p → Absent p ps
 below_free i [] e p l = tt
 below_free i (q ∷ ps) e p l =
-    let h = both_true (ltb q i) (below i ps) e in
+    let h = and_parts (ltb q i) (below i ps) e in
     let k = ltb-true q i h.0 in
     ((λ w. omega (arith, w, k, l)), below_free i ps h.1 p l)
 
@@ -75,7 +72,7 @@ later_right L P (is ∷ iss) i t js outs h e =
     pick rec free none q k = absurd (none-ne-some outs k)
     pick rec free (some r) q k =
         let c = cond_some (leb (size r.trace) L && distinct (places r.trace)) _ outs k in
-        let b = both_true (leb (size r.trace) L) (distinct (places r.trace)) c.0 in
+        let b = and_parts (leb (size r.trace) L) (distinct (places r.trace)) c.0 in
         let a = and_some (settled 1 r.E r.M (size r.trace) (result r.trace)) _ outs c.1 in
         let w : Turns P (places t) (initial is) t r.trace r.E r.M = turns_right P (places t) (suc L) t (initial is) i r free q in
         let s : Stands P is r.trace = turns_leave_a_run P js is t r.trace r.E r.M h w (distinct_right (places r.trace) b.1) in
