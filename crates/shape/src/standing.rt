@@ -7,7 +7,7 @@ ghost use Rattle.shape.specs.Shapes.{ranged, if_so, behind_part, after, shape_ru
 
 use crate::fault::ShapeFault;
 use text::fields::{Fields, Kind};
-use text::line::{Line, Word};
+use text::line::{Line, Parts, Word};
 
 // The most functions of a text, commands and tails of a text, registers of a function, and inputs.
 const FUNCTIONS: usize = 64;
@@ -214,7 +214,11 @@ impl Standing {
     pub(crate) fn take(&self, line: Line<'_>, last: bool) -> Result<Standing, ShapeFault>
         ensures { result ≡ answer (after self.now (said line.entry)) (shape_rules self.now (numbered line.entry) (said line.entry) last) }
     {
-        let (number, word, fields) = line.parts();
+        let Parts {
+            number,
+            word,
+            fields,
+        } = line.parts();
         let part = part_of(word);
         if !in_place(self.due, part, last) {
             return Err(ShapeFault::Position { line: number });

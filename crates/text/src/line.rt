@@ -55,6 +55,14 @@ pub enum Line<'a> {
     },
 }
 
+// A line taken apart: its number, its word and its fields.
+#[derive(Clone, Copy)]
+pub struct Parts<'a> {
+    pub number: usize,
+    pub word: Word,
+    pub fields: Fields<'a>,
+}
+
 // The faults of layer 1: a wrong length of the text or of a line, an unknown word, a field that is no number.
 #[derive(Clone, Copy, PartialEq, Eq, Debug)]
 pub enum LineFault {
@@ -65,13 +73,25 @@ pub enum LineFault {
 
 impl<'a> Line<'a> {
     // The line's number, its word and its fields.
-    pub fn parts(self) -> (usize, Word, Fields<'a>)
+    pub fn parts(self) -> Parts<'a>
         ensures { told result ≡ (numbered self.entry, said self.entry) }
     {
         match self {
-            Line::Inputs { number, fields } => (number, Word::Inp, fields),
-            Line::Run { number, fields } => (number, Word::Run, fields),
-            Line::Function { number, fields } => (number, Word::Fun, fields),
+            Line::Inputs { number, fields } => Parts {
+                number,
+                word: Word::Inp,
+                fields,
+            },
+            Line::Run { number, fields } => Parts {
+                number,
+                word: Word::Run,
+                fields,
+            },
+            Line::Function { number, fields } => Parts {
+                number,
+                word: Word::Fun,
+                fields,
+            },
             Line::Command {
                 number,
                 word,
@@ -81,7 +101,11 @@ impl<'a> Line<'a> {
                 number,
                 word,
                 fields,
-            } => (number, word, fields),
+            } => Parts {
+                number,
+                word,
+                fields,
+            },
         }
     }
 }
@@ -110,10 +134,14 @@ fn spelled(a: u8, b: u8, c: u8) -> Option<Word>
     }
 }
 
-fn formed<'a>(number: usize, word: Word, fields: Fields<'a>) -> Line<'a>
-    ensures number { numbered result ≡ number }
-    ensures said { said result ≡ (told (number, word, fields.entry)).1 }
+fn formed(parts: Parts<'_>) -> Line<'_>
+    ensures { (numbered result, said result) ≡ told parts.entry }
 {
+    let Parts {
+        number,
+        word,
+        fields,
+    } = parts;
     match word {
         Word::Inp => Line::Inputs { number, fields },
         Word::Run => Line::Run { number, fields },
@@ -154,5 +182,9 @@ pub(crate) fn read(number: usize, bytes: &[u8]) -> Result<Line<'_>, LineFault>
     if !all_stand(columns) {
         return Err(LineFault::Field { line: number });
     }
-    Ok(formed(number, word, Fields::over(columns)))
+    Ok(formed(Parts {
+        number,
+        word,
+        fields: Fields::over(columns),
+    }))
 }
