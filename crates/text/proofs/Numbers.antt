@@ -1,8 +1,10 @@
 -- The numbers of a line's fields, by place.
-use Rattle.std.proofs.Common.{◌≡◌, ℕ, zero, suc, ◌+◌, ◌*◌, ◌/◌, ◌<◌, ◌≤◌, true, false, ◌&&◌, List, [], ◌∷◌, length, get_or, take, drop, pos, is_some, unwrap_or, sym, refl, ap, ◌∙◌, arith, length-drop}
+use Rattle.std.proofs.Common.{◌≡◌, ℕ, zero, suc, ◌+◌, ◌*◌, ◌/◌, ◌<◌, ◌≤◌, true, false, ◌&&◌, List, [], ◌∷◌, length, get_or, take, drop, ℤ, pos, is_some, is_ok, unwrap_or, Ok, Err, Result, sym, refl, ap, ◌∙◌, arith, length-drop}
 use Rattle.std.proofs.lemmas.List.{drop-drop}
 use Rattle.text.specs.Field.{field_value}
-use Rattle.text.specs.Numbers.{fields_stand, numbers, numbers_in}
+use Rattle.text.specs.Numbers.{fields_stand, numbers, numbers_in, kind_of, Names}
+use Rattle.text.specs.declared.fields.Kind.{Kind}
+use Rattle.text.specs.declared.fields.UnknownKind.{UnknownKind}
 
 pub length_numbers : (k : ℕ) (bs : List ℕ) → length (numbers k bs) ≡ k
 length_numbers zero bs = refl
@@ -43,3 +45,8 @@ pub stand_fails : (xs : List ℕ) → 6 ≤ length xs → is_some (field_value (
 stand_fails xs l t =
     let e : length xs / 6 ≡ suc (length (drop 6 xs) / 6) = omega (arith, length-drop 6 xs) in
     ap (λ k. fields_stand k xs) e ∙ ap (λ b. b && fields_stand (length (drop 6 xs) / 6) (drop 6 xs)) t
+
+-- whether a number names a kind
+pub named_is : (z : ℤ) (r : Result Kind UnknownKind) → Names z r → is_ok r ≡ is_some (kind_of z)
+named_is z (Ok k) e = ap is_some (sym e)
+named_is z (Err u) e = ap is_some (sym e.0)
