@@ -13,7 +13,7 @@ pub fn check_shape(text: &[u8]) -> Result<(), ShapeFault>
 {
     check_lines(text)?;
     let mut lines = Lines::of(text).peekable();
-    let mut standing = Standing::first();
+    let mut standing = Standing::default();
     while let Some(line) = lines.next() {
         standing = standing.take(line, lines.peek().is_none())?;
     }

@@ -32,8 +32,9 @@ pub enum Part {
 }
 
 // What has to come next: INP, RUN, FUN, or a command or tail.
-#[derive(Clone, Copy, PartialEq, Eq)]
+#[derive(Clone, Copy, PartialEq, Eq, Default)]
 pub enum Due {
+    #[default]
     Inputs,
     Run,
     Head,
@@ -41,8 +42,8 @@ pub enum Due {
 }
 
 // How things stand behind a line: what is due, how many functions and how many commands and tails there were, and how
-// many registers the function has.
-#[derive(Clone, Copy)]
+// many registers the function has. The default is how they stand before the first line.
+#[derive(Clone, Copy, Default)]
 pub struct Standing {
     due: Due,
     functions: usize,
@@ -138,18 +139,6 @@ fn inputs_in_range(fields: Fields<'_>) -> bool
 }
 
 impl Standing {
-    // Before the first line.
-    pub(crate) fn first() -> Standing
-        ensures { result ≡ start }
-    {
-        Standing {
-            due: Due::Inputs,
-            functions: 0,
-            steps: 0,
-            registers: 0,
-        }
-    }
-
     // How things stand behind a line, unless it passes a range or a limit.
     fn behind(&self, part: Part, fields: Fields<'_>) -> Option<Standing>
         ensures { result ≡ if_so (ranged self.now part (values fields.entry)) (behind_part self.now part (length (values fields.entry))) }

@@ -1,4 +1,4 @@
-use Rattle.std.proofs.Common.{Err, sym, ap, ◌∙◌}
+use Rattle.std.proofs.Common.{◌≡◌, Err, sym, ap, ◌∙◌}
 use Rattle.std.proofs.lemmas.Result.{err_from_is_err_and}
 use Rattle.text.specs.First.{first, answer}
 use Rattle.text.specs.Lines.{lines_of, text_fault}
@@ -13,9 +13,11 @@ loop-line-init c =
     let bs = c.args.text.now in
     let o = c.of.ensures in
     let a = answer_ok tt c.in_ok-check_lines.field-0 (text_fault bs) c.in_ok-check_lines.ensures.value in
+    let d = c.default-standing.ensures in
+    let begins : c.default-standing.result ≡ start = λ i. record { due = d.0 i; functions = d.1.0 i; steps = d.1.1.0 i; registers = d.1.1.1 i } in
     let none = c.peekable-lines.ensures.peeked in
     let behind = c.peekable-lines.ensures.source in record {
-      faults = rw (none, behind, c.first-standing.ensures, o.left, o.passed) (ap (first after shape_rules start 1) (lines_standing bs a.0));
+      faults = rw (none, behind, begins, o.left, o.passed) (ap (first after shape_rules start 1) (lines_standing bs a.0));
       latest = rw none tt;
     }
 
