@@ -19,7 +19,7 @@ const STEPS: usize = 512;
 
 const REGISTERS: usize = 16;
 
-const INPUTS: usize = 256;
+pub const INPUTS: usize = 256;
 
 // The parts of a text: INP, RUN, FUN, a command, a tail.
 #[derive(Clone, Copy, PartialEq, Eq)]

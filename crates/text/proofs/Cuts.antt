@@ -11,12 +11,6 @@ use Rattle.text.specs.Numbers.{fields_stand, numbers_in}
 use Rattle.text.specs.Reader.{Reads, Falls}
 use Rattle.text.proofs.Passes.{or_none}
 
-pub end_here : (i b : ℕ) (bs : List ℕ) → true ≡ eqb b 10 → line_end i (b ∷ bs) ≡ Some i
-end_here i b bs e = ap (λ t. cond t (Some i) (line_end (i + 1) bs)) (sym e)
-
-pub end_on : (i b : ℕ) (bs : List ℕ) → false ≡ eqb b 10 → line_end i (b ∷ bs) ≡ line_end (i + 1) bs
-end_on i b bs e = ap (λ t. cond t (Some i) (line_end (i + 1) bs)) (sym e)
-
 pub record Cut (k j : ℕ) (bs : List ℕ) : Type 0 where
   pub size : ℕ
   pub at : j ≡ k + size

@@ -1,5 +1,6 @@
 -- A line of a text: a word of three capital letters, up to nine fields of six columns, byte 10.
 use Rattle.std.specs.Prelude.{ℕ, ◌+◌, ◌-◌, ◌/◌, ◌%◌, Bool, true, false, cond, ◌&&◌, List, [], ◌∷◌, map, length, drop, ℤ, Some, None, Ok, Err, Option, Result, ◌==◌, nat_le, slice_index}
+use Rattle.std.specs.List.{position_from}
 use Rattle.text.specs.declared.line.Word.{Word}
 use Rattle.text.specs.declared.line.Word.TheVariants as w
 use Rattle.text.specs.declared.line.LineFault.{LineFault}
@@ -104,5 +105,4 @@ lines_of bs = map reading (lines_in bs)
 
 -- the place of the first byte 10, where the bytes stand from place i on
 abbrev pub line_end : ℕ → List ℕ → Option ℕ
-line_end i [] = None
-line_end i (b ∷ bs) = cond (b == 10) (Some i) (line_end (i + 1) bs)
+line_end i bs = position_from (λ b. b == 10) i bs
