@@ -129,17 +129,11 @@ impl<'a> Iterator for Numbers<'a> {
 
 // Whether each field holds a number.
 pub(crate) fn all_stand(columns: &[u8]) -> bool
-    requires { length columns.now % 6 ≡ 0 }
     ensures { result ≡ fields_stand (length columns.now / 6) columns.now }
 {
-    let mut rest = columns;
-    while rest.len() >= WIDTH {
-        if field(&rest[0..WIDTH]).is_none() {
-            return false;
-        }
-        rest = &rest[WIDTH..];
-    }
-    true
+    columns
+        .chunks_exact(WIDTH)
+        .all(|columns| field(columns).is_some())
 }
 
 // The number that a field of six columns holds, or none where it holds no such number.
