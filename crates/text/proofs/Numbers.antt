@@ -1,5 +1,5 @@
 -- The numbers of a line's fields, by place.
-use Rattle.std.proofs.Common.{◌≡◌, ℕ, zero, suc, ◌+◌, ◌*◌, ◌/◌, ◌<◌, ◌≤◌, true, false, ◌&&◌, List, [], ◌∷◌, length, get_or, take, drop, ℤ, pos, is_some, is_ok, unwrap_or, Ok, Err, Result, sym, refl, ap, ◌∙◌, arith, length-append, length-drop, ◌++◌}
+use Rattle.std.proofs.Common.{◌≡◌, ℕ, zero, suc, ◌+◌, ◌*◌, ◌/◌, ◌<◌, ◌≤◌, ◌&&◌, List, [], ◌∷◌, length, get_or, take, drop, ℤ, pos, is_some, is_ok, unwrap_or, Ok, Err, Result, sym, refl, ap, ◌∙◌, arith, length-append, length-drop, ◌++◌}
 use Rattle.std.proofs.Math.Seq.{take-append_seam, drop-append_seam}
 use Rattle.std.proofs.lemmas.List.{drop-drop}
 use Rattle.std.proofs.lemmas.Iterator.{YieldsList}

@@ -144,28 +144,8 @@ fn field(columns: &[u8]) -> Option<i32>
         return None;
     }
     match unspaced_part(columns) {
-        [b'-', digits @ ..] => negative(natural(digits)),
-        digits => positive(natural(digits)),
-    }
-}
-
-fn positive(n: Option<u32>) -> Option<i32>
-    requires { IfSome n (λ n. n < 1000000) }
-    ensures { result ≡ as_positive n }
-{
-    match n {
-        Some(n) => Some(n as i32),
-        None => None,
-    }
-}
-
-fn negative(n: Option<u32>) -> Option<i32>
-    requires { IfSome n (λ n. n < 1000000) }
-    ensures { result ≡ as_negative n }
-{
-    match n {
-        Some(0) | None => None,
-        Some(n) => Some(-(n as i32)),
+        [b'-', digits @ ..] => natural(digits).filter(|n| *n != 0).map(|n| -(n as i32)),
+        digits => natural(digits).map(|n| n as i32),
     }
 }
 
