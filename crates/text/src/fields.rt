@@ -181,10 +181,7 @@ fn digits_value(digits: &[u8]) -> Option<u32>
 {
     let mut value = 0u32;
     for b in digits {
-        if *b < b'0' || *b > b'9' {
-            return None;
-        }
-        value = value * 10 + (*b - b'0') as u32;
+        value = value * 10 + char::from(*b).to_digit(10)?;
     }
     Some(value)
 }
