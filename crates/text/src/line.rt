@@ -5,7 +5,7 @@ ghost use Rattle.text.specs.Told.{told, numbered, said, told_line};
 use crate::fields::{Fields, WIDTH, all_stand};
 
 // The columns of nine fields.
-const MOST_COLUMNS: usize = 54;
+const MOST_COLUMNS: usize = 9 * WIDTH;
 
 // The words that a line may begin with.
 #[derive(Clone, Copy, PartialEq, Eq, Debug)]
@@ -64,6 +64,7 @@ pub struct Parts<'a> {
 }
 
 // The faults of layer 1: a wrong length of the text or of a line, an unknown word, a field that is no number.
+// Each names its line: with a struct of a line and a kind, whoever matches a fault would take two steps for one.
 #[derive(Clone, Copy, PartialEq, Eq, Debug)]
 pub enum LineFault {
     Length { line: usize },
@@ -144,35 +145,40 @@ impl TryFrom<[u8; 3]> for Word {
     }
 }
 
-fn formed(parts: Parts<'_>) -> Line<'_>
-    ensures { (numbered result, said result) ≡ told parts.entry }
-{
-    let Parts {
-        number,
-        word,
-        fields,
-    } = parts;
-    match word {
-        Word::Inp => Line::Inputs { number, fields },
-        Word::Run => Line::Run { number, fields },
-        Word::Fun => Line::Function { number, fields },
-        Word::Lit
-        | Word::Add
-        | Word::Sub
-        | Word::Mul
-        | Word::Div
-        | Word::Min
-        | Word::Max
-        | Word::New => Line::Command {
+impl<'a> From<Parts<'a>> for Line<'a> {
+    ghost use Rattle.std.specs.Prelude.{◌≡◌};
+    ghost use Rattle.text.specs.Told.{told, numbered, said};
+
+    ghost from_gives = { λ p l. (numbered l, said l) ≡ told p };
+
+    fn from(parts: Parts<'a>) -> Line<'a> {
+        let Parts {
             number,
             word,
             fields,
-        },
-        Word::Put | Word::Nil | Word::Con | Word::Get | Word::Cas => Line::Tail {
-            number,
-            word,
-            fields,
-        },
+        } = parts;
+        match word {
+            Word::Inp => Line::Inputs { number, fields },
+            Word::Run => Line::Run { number, fields },
+            Word::Fun => Line::Function { number, fields },
+            Word::Lit
+            | Word::Add
+            | Word::Sub
+            | Word::Mul
+            | Word::Div
+            | Word::Min
+            | Word::Max
+            | Word::New => Line::Command {
+                number,
+                word,
+                fields,
+            },
+            Word::Put | Word::Nil | Word::Con | Word::Get | Word::Cas => Line::Tail {
+                number,
+                word,
+                fields,
+            },
+        }
     }
 }
 
@@ -192,7 +198,7 @@ pub(crate) fn read(number: usize, bytes: &[u8]) -> Result<Line<'_>, LineFault>
     if !all_stand(columns) {
         return Err(LineFault::Field { line: number });
     }
-    Ok(formed(Parts {
+    Ok(Line::from(Parts {
         number,
         word,
         fields: Fields::over(columns),

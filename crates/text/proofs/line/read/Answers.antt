@@ -14,4 +14,4 @@ pub returns : goal.returns
 returns c =
     let bs = c.args.bytes.now in
     let T : List ℤ → Told = λ zs. (c.args.number, (c.in-Ok.word, zs)) in
-    ap Ok (c.formed.ensures ∙ ap T (ap numbers_in c.over.ensures)) ∙ line_stands c.args.number c.in-Ok.word bs (take (length bs - 3) (drop 3 bs)) (take_rest bs 3) (search rules) c.if-columns-ne0.false c.if-columns-gt-MOST_COLUMNS.false (sym c.in-Ok.ensures) c.if-not-all_stand.ensures
+    ap Ok (c.from.ensures ∙ ap T (ap numbers_in c.over.ensures)) ∙ line_stands c.args.number c.in-Ok.word bs (take (length bs - 3) (drop 3 bs)) (take_rest bs 3) (search rules) c.if-columns-ne0.false c.if-columns-gt-MOST_COLUMNS.false (sym c.in-Ok.ensures) c.if-not-all_stand.ensures
