@@ -37,14 +37,6 @@ loop-line-preserved c =
       latest = latest_is m.iter _ v.iter v.peeked h looks.2;
     }
 
-pub returns : goal.returns
-returns c =
-    let bs = c.args.text.now in
-    let r = c.loop-line.lines in
-    let a = answer_ok tt c.in_ok-check_lines.field-0 (text_fault bs) c.in_ok-check_lines.ensures.value in
-    let n = none_taken r.peeked r.iter c.next.new.self.iter c.in_default.ensures.steps.1 in
-    ap (answer tt) (sym (ap (λ o. over_lines o (shape_fault_of (lines_of bs))) a.0 ∙ sym c.loop-line.invariant.faults ∙ ap (first after shape_rules c.loop-line.standing (awaited_number r.peeked r.iter)) n))
-
 pub returns-in_err-standing : goal.returns-in_err-standing
 returns-in_err-standing c =
     let bs = c.args.text.now in
