@@ -4,7 +4,7 @@ use Rattle.text.specs.First.{first, answer}
 use Rattle.text.specs.Lines.{lines_of, text_fault}
 use Rattle.text.specs.Told.{numbered, said}
 use Rattle.text.proofs.Cuts.{lines_standing}
-use Rattle.text.proofs.Passes.{awaited_number, none_taken, looked, latest_is, last_is, pass_on, pass_stop, answer_ok, answer_err}
+use Rattle.text.proofs.Passes.{looked, latest_is, last_is, pass_on, pass_stop, answer_ok, answer_err}
 use Rattle.shape.specs.Shapes.{start, after, shape_rules, shape_fault_of, over_lines}
 use Rattle.shape.proofs.check.check_shape.Goals as goal
 
