@@ -10,7 +10,7 @@ use crate::registers::Registers;
 use shape::check::check_shape;
 use std::alloc::{AllocError, Global};
 use text::fields::Fields;
-use text::line::Word;
+use text::line::{Parts, Word};
 use text::lines::Lines;
 
 // The heads of the functions, in order: the fields of the FUN lines.
@@ -21,7 +21,7 @@ fn heads<'a>(heap: Global, text: &'a [u8]) -> Result<Vec<Fields<'a>>, AllocError
     let mut heads = Vec::new(heap);
     let mut lines = Lines::of(text);
     while let Some(line) = lines.next_line() {
-        let (_, word, fields) = line.parts();
+        let Parts { word, fields, .. } = line.parts();
         heads = with_head(heads, word, fields)?;
     }
     Ok(heads)
@@ -52,7 +52,11 @@ fn check_rules(heap: Global, text: &[u8]) -> Result<(), Refusal>
     let mut registers = Registers::none(heap);
     let mut lines = Lines::of(text);
     while let Some(line) = lines.next_line() {
-        let (number, word, fields) = line.parts();
+        let Parts {
+            number,
+            word,
+            fields,
+        } = line.parts();
         if let Some(fault) = registers.refusal(heads.as_slice(), number, word, fields) {
             return Err(Refusal::Fault(fault));
         }

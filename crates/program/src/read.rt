@@ -19,7 +19,7 @@ use crate::program::Program;
 use kinds::registers::kinds_of;
 use std::alloc::{AllocError, Global};
 use text::fields::{Fields, Kind};
-use text::line::Word;
+use text::line::{Parts, Word};
 use text::lines::Lines;
 
 // What field j names.
@@ -205,7 +205,7 @@ fn read_function(
     let params = kinds_of(heap, head.skip(1))?;
     let mut commands = Vec::new(heap);
     while let Some(line) = lines.next_line() {
-        let (_, word, fields) = line.parts();
+        let Parts { word, fields, .. } = line.parts();
         if ends_function(word) {
             let tail = read_tail(heap, word, fields)?;
             return Ok(Function {
@@ -228,7 +228,7 @@ fn read_functions(heap: Global, rest: Lines<'_>) -> Result<Vec<Function>, AllocE
     let mut lines = rest;
     let mut functions = Vec::new(heap);
     while let Some(line) = lines.next_line() {
-        let (_, _, head) = line.parts();
+        let Parts { fields: head, .. } = line.parts();
         let function = read_function(heap, head, &mut lines)?;
         functions.push(function)?;
     }
@@ -242,8 +242,7 @@ fn next_fields<'a>(lines: &mut Lines<'a>) -> Fields<'a>
     let Some(line) = lines.next_line() else {
         return Fields::none();
     };
-    let (_, _, fields) = line.parts();
-    fields
+    line.parts().fields
 }
 
 // The program that a text without a fault says.

@@ -1,21 +1,18 @@
 -- How the reader cuts a text into its lines.
-use Rattle.std.proofs.Common.{◌≡◌, ℕ, suc, ◌+◌, ◌<◌, ◌≤◌, Bool, true, false, cond, ◌&&◌, eqb, leb, List, [], ◌∷◌, map, length, get_or, take, drop, Some, None, Ok, Err, Option, Result, sym, refl, ap, ◌∙◌, ⊎_elim, arith, length-drop}
-use Rattle.std.proofs.lemmas.Bool.{le-leb}
+use Rattle.std.proofs.Common.{◌≡◌, ℕ, suc, ◌+◌, ◌<◌, Bool, true, false, cond, ◌&&◌, leb, List, [], ◌∷◌, map, length, get_or, take, drop, Some, None, Ok, Err, Option, Result, sym, refl, ap, ◌∙◌, ⊎_elim, arith, length-drop}
 use Rattle.std.proofs.lemmas.Bool.Decides.{eqb_tells}
 use Rattle.text.specs.declared.line.Word.{Word}
 use Rattle.text.specs.declared.line.LineFault.{LineFault}
 use Rattle.text.specs.declared.line.LineFault.TheVariants as f
-use Rattle.text.specs.First.{or_else, no_fault, none_left}
+use Rattle.text.specs.First.{no_fault}
 use Rattle.text.specs.Lines.{Said, Told, line_end, right_length, line_of, Raw, longer, lines_in, line_fault, fault_in, standing, lines_of, reading, worded, word_of, or_nil, text_fault}
 use Rattle.text.specs.Numbers.{fields_stand, numbers_in}
-use Rattle.text.specs.Reader.{Reads, Falls}
+use Rattle.text.specs.Reader.{Reads, Falls, left, passed, unread, HandsOut, TellsNext}
+use Rattle.text.specs.Told.{said}
+use Rattle.text.specs.declared.line.Line.{Line}
+use Rattle.text.specs.declared.lines.Lines.{Lines}
+use Rattle.std.specs.Result.{result_ok}
 use Rattle.text.proofs.Passes.{or_none}
-
-pub end_here : (i b : ℕ) (bs : List ℕ) → true ≡ eqb b 10 → line_end i (b ∷ bs) ≡ Some i
-end_here i b bs e = ap (λ t. cond t (Some i) (line_end (i + 1) bs)) (sym e)
-
-pub end_on : (i b : ℕ) (bs : List ℕ) → false ≡ eqb b 10 → line_end i (b ∷ bs) ≡ line_end (i + 1) bs
-end_on i b bs e = ap (λ t. cond t (Some i) (line_end (i + 1) bs)) (sym e)
 
 pub record Cut (k j : ℕ) (bs : List ℕ) : Type 0 where
   pub size : ℕ
@@ -87,17 +84,9 @@ pub unended : (n : ℕ) (bs : List ℕ) → 0 < length bs → line_end 0 bs ≡ 
 unended n [] l e = absurd (omega arith)
 unended n (b ∷ bs) l e = record { line = (false, b ∷ bs); behind = []; lines = uncut 0 b bs e; broken = λ last. refl }
 
--- the fault of the first line is the first of all
-pub fallen : (n : ℕ) (bs : List ℕ) (y : LineFault) → Falls n bs y → line_fault n (lines_in bs) ≡ Some y
-fallen n bs y r = ap (line_fault n) r.lines ∙ ap (λ o. or_else o (line_fault (n + 1) r.behind)) (r.broken (none_left r.behind))
-
 -- where the first line falls none is left
 pub none_stands : (n : ℕ) (bs : List ℕ) (y : LineFault) → Falls n bs y → standing n (lines_in bs) ≡ []
 none_stands n bs y r = ap (standing n) r.lines ∙ ap (λ o. cond (no_fault o) (reading r.line ∷ standing (n + 1) r.behind) []) (r.broken false)
-
--- a line that stands has no fault
-pub read_on : (n : ℕ) (bs : List ℕ) (x : Told) (behind : List ℕ) → Reads n bs x behind → line_fault n (lines_in bs) ≡ line_fault (n + 1) (lines_in behind)
-read_on n bs x behind r = ap (line_fault n) r.lines ∙ ap (λ t. or_else (fault_in t) (line_fault (n + 1) (lines_in behind))) r.stands
 
 ok_cond : {T E : Type 0} (b : Bool) (x : Result T E) (e : E) (y : T) → cond b x (Err e) ≡ Ok y → x ≡ Ok y
 ok_cond true x e y p = p
@@ -120,6 +109,15 @@ lines_left n m bs x behind r =
     let e = line_said n r.line (m, x) r.stands in
     (ap (standing n) r.lines ∙ ap (λ t. cond (no_fault (fault_in t)) (reading (true, r.line) ∷ standing (n + 1) (lines_in behind)) []) r.stands ∙ ap (λ (y : Told). y.1 ∷ standing (n + 1) (lines_in behind)) (sym e), ap (λ (y : Told). y.0) e)
 
+-- where a line is told it is handed out
+pub handed_out : (l : Lines) (r : Result Line LineFault) (m : Lines) → TellsNext l (Some r) m → HandsOut l (result_ok r) m
+handed_out l (Ok x) m h =
+    let e = lines_left (passed l + 1) _ (unread l) _ _ h.0 in
+    (e.0 ∙ ap (λ n. said x ∷ standing (n + 1) (lines_in (unread m))) (sym h.1), e.1, h.1)
+handed_out l (Err f) m h =
+    let e = none_stands (passed l + 1) (unread l) f h.0 in
+    (e, ap left h.1 ∙ e, ap passed h.1)
+
 by_length : (b : Bool) (o : Option LineFault) → cond b o (Some (f.Length 0)) ≡ None → o ≡ None
 by_length true o e = e
 by_length false o e = absurd (let z : ◌≡◌ {A = ℕ} 0 1 = cc in omega arith)
@@ -134,6 +132,3 @@ all_standing n ((false, l) ∷ ls) e = absurd (let z : ◌≡◌ {A = ℕ} 0 1 =
 
 pub lines_standing : (bs : List ℕ) → text_fault bs ≡ None → standing 1 (lines_in bs) ≡ lines_of bs
 lines_standing bs e = all_standing 1 (lines_in bs) (by_length (leb 1 (length bs) && leb (length bs) 65536) (line_fault 1 (lines_in bs)) e)
-
-pub in_length : (bs : List ℕ) → 1 ≤ length bs → length bs ≤ 65536 → text_fault bs ≡ line_fault 1 (lines_in bs)
-in_length bs a b = ap (λ t. cond (t && leb (length bs) 65536) (line_fault 1 (lines_in bs)) (Some (f.Length 0))) (le-leb 1 (length bs) a) ∙ ap (λ t. cond t (line_fault 1 (lines_in bs)) (Some (f.Length 0))) (le-leb (length bs) 65536 b)

@@ -1,6 +1,4 @@
-mod FieldRule
-mod Numbers
-mod LineForms
+pub mod Numbers
 mod Columns
 pub mod Rendered
 pub mod Passes

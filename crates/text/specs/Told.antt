@@ -1,16 +1,15 @@
 -- What the code's lines say.
 use Rattle.std.specs.Prelude.{ℕ, Ok, Err, Result}
-use Rattle.text.specs.declared.fields.Fields.{Fields}
-use Rattle.text.specs.declared.line.Word.{Word}
 use Rattle.text.specs.declared.line.Word.TheVariants as w
 use Rattle.text.specs.declared.line.Line.{Line}
+use Rattle.text.specs.declared.line.Parts.{Parts}
 use Rattle.text.specs.declared.line.Line.TheVariants as l
 use Rattle.text.specs.declared.line.LineFault.{LineFault}
 use Rattle.text.specs.Values.{values}
 use Rattle.text.specs.Lines.{Said, Told}
 
-abbrev pub told : ℕ × Word × Fields → Told
-told (n, k, fs) = (n, (k, values fs))
+abbrev pub told : Parts → Told
+told p = (p.number, (p.word, values p.fields))
 
 abbrev pub numbered : Line → ℕ
 numbered (l.Inputs n fs) = n

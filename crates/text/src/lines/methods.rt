@@ -1,9 +1,9 @@
 ghost use Rattle.std.specs.Prelude.{◌≡◌};
 ghost use Rattle.text.specs.Lines.{lines_in, standing};
-ghost use Rattle.text.specs.Reader.{left, passed, HandsOut};
+ghost use Rattle.text.specs.Reader.{left, passed, unread, HandsOut, TellsNext};
 
 use crate::cut::first_line;
-use crate::line::Line;
+use crate::line::{Line, LineFault};
 use crate::lines::Lines;
 
 impl<'a> Lines<'a> {
@@ -11,6 +11,7 @@ impl<'a> Lines<'a> {
     pub fn of(text: &'a [u8]) -> Lines<'a>
         ensures left { left result ≡ standing 1 (lines_in text.now) }
         ensures passed { passed result ≡ 0 }
+        ensures unread { unread result ≡ text.now }
     {
         Lines {
             rest: text,
@@ -18,24 +19,45 @@ impl<'a> Lines<'a> {
         }
     }
 
-    // The next line, if one is left and keeps the rules of layer 1.
-    pub fn next_line(&mut self) -> Option<Line<'a>>
-        ensures { HandsOut self.old result self.new }
+    // The next line, or what it breaks of the rules of layer 1, if a line is left.
+    pub(crate) fn tell_next(&mut self) -> Option<Result<Line<'a>, LineFault>>
+        ensures { TellsNext self.old result self.new }
     {
-        let text = self.rest;
-        if text.len() == 0 {
+        if self.rest.is_empty() {
             return None;
         }
         let number = self.passed + 1;
-        match first_line(number, text) {
+        match first_line(number, self.rest) {
             Ok((line, rest)) => {
                 *self = Lines {
                     rest,
                     passed: number,
                 };
-                Some(line)
+                Some(Ok(line))
             }
-            Err(_) => None,
+            Err(fault) => Some(Err(fault)),
         }
+    }
+
+    // The next line, if one is left and keeps the rules of layer 1.
+    pub fn next_line(&mut self) -> Option<Line<'a>>
+        ensures { HandsOut self.old result self.new }
+    {
+        self.next()
+    }
+}
+
+impl<'a> Iterator for Lines<'a> {
+    ghost use Rattle.std.specs.Iterator.{item_count};
+    ghost use Rattle.text.specs.Reader.{left, HandsOut};
+
+    type Item = Line<'a>;
+
+    ghost next_gives = { HandsOut };
+
+    ghost remaining = { item_count left };
+
+    fn next(&mut self) -> Option<Line<'a>> {
+        self.tell_next()?.ok()
     }
 }
