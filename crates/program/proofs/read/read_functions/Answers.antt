@@ -22,15 +22,15 @@ headed l m k zs x e q f =
 
 pub read_function-requires : goal.read_function-requires
 read_function-requires c =
-    let h = headed (left c.loop-line.lines) (left c.next_line.new.self) c.parts.result.1 (values c.parts.result.2) (said c.in-Some.line) c.in-Some.ensures.0 (ap (λ (t : Told). t.1) c.parts.ensures) c.loop-line.invariant.1 in
+    let h = headed (left c.loop-line.lines) (left c.next_line.new.self) c.parts.result.word (values c.parts.result.fields) (said c.in-Some.line) c.in-Some.ensures.0 (ap (λ (t : Told). t.1) c.parts.ensures) c.loop-line.invariant.1 in
     record { head = h.1; body = h.2 }
 
 pub loop-line-preserved : goal.loop-line-preserved
 loop-line-preserved c =
-    let zs = values c.parts.result.2 in
+    let zs = values c.parts.result.fields in
     let m = left c.next_line.new.self in
     let q = ap (λ (t : Told). t.1) c.parts.ensures in
-    let h = headed (left c.loop-line.lines) m c.parts.result.1 zs (said c.in-Some.line) c.in-Some.ensures.0 q c.loop-line.invariant.1 in
+    let h = headed (left c.loop-line.lines) m c.parts.result.word zs (said c.in-Some.line) c.in-Some.ensures.0 q c.loop-line.invariant.1 in
     let fs = vec_items c.loop-line.functions in
     let f = c.in_ok-function.function in
     let r = c.in_ok-function.ensures in
