@@ -47,7 +47,8 @@ pub struct Standing {
     registers: usize,
 }
 
-fn part_of(word: Word) -> Part
+// The part of a text that a line of this word is.
+pub fn part_of(word: Word) -> Part
     ensures { result ≡ part_of word }
 {
     match word {

@@ -1,6 +1,5 @@
 -- What the code's lines say.
 use Rattle.std.specs.Prelude.{ℕ, Ok, Err, Result}
-use Rattle.text.specs.declared.line.Word.{Word}
 use Rattle.text.specs.declared.line.Word.TheVariants as w
 use Rattle.text.specs.declared.line.Line.{Line}
 use Rattle.text.specs.declared.line.Parts.{Parts}

@@ -22,20 +22,32 @@ impl<'a> Lines<'a> {
     pub fn next_line(&mut self) -> Option<Line<'a>>
         ensures { HandsOut self.old result self.new }
     {
-        let text = self.rest;
-        if text.len() == 0 {
+        self.next()
+    }
+}
+
+impl<'a> Iterator for Lines<'a> {
+    ghost use Rattle.std.specs.Iterator.{item_count};
+    ghost use Rattle.text.specs.Reader.{left, HandsOut};
+
+    type Item = Line<'a>;
+
+    ghost next_gives = { HandsOut };
+
+    ghost remaining = { item_count left };
+
+    fn next(&mut self) -> Option<Line<'a>> {
+        if self.rest.is_empty() {
             return None;
         }
         let number = self.passed + 1;
-        match first_line(number, text) {
-            Ok((line, rest)) => {
-                *self = Lines {
-                    rest,
-                    passed: number,
-                };
-                Some(line)
-            }
-            Err(_) => None,
-        }
+        let Ok((line, rest)) = first_line(number, self.rest) else {
+            return None;
+        };
+        *self = Lines {
+            rest,
+            passed: number,
+        };
+        Some(line)
     }
 }

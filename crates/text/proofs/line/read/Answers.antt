@@ -1,4 +1,4 @@
-use Rattle.std.proofs.Common.{◌≡◌, ℕ, ◌-◌, List, length, take, drop, ℤ, Ok, ap, ◌∙◌, rules}
+use Rattle.std.proofs.Common.{◌-◌, List, length, take, drop, ℤ, Ok, ap, ◌∙◌, rules}
 use Rattle.std.proofs.lemmas.List.{take_rest}
 use Rattle.text.specs.Numbers.{numbers_in}
 use Rattle.text.specs.Lines.{Told}
