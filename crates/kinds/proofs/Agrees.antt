@@ -1,5 +1,5 @@
 -- What chains over the fields of a line answer, against the kinds' rules.
-use Rattle.std.proofs.Common.{◌≡◌, ℕ, zero, suc, ◌+◌, ◌<◌, ◌≤◌, Bool, true, false, cond, ◌&&◌, List, [], ◌∷◌, map, length, get_or, drop, ℤ, pos, Some, None, Option, sym, refl, ap, ◌∙◌, subst, ⊎_elim, arith}
+use Rattle.std.proofs.Common.{◌≡◌, ℕ, zero, suc, ◌+◌, ◌<◌, ◌≤◌, Bool, true, false, ◌&&◌, List, [], ◌∷◌, map, length, get_or, drop, ℤ, pos, Some, None, sym, refl, ap, ◌∙◌, subst, ⊎_elim, arith}
 use Rattle.std.proofs.lemmas.Bool.{cases_lt, and_left, and_right}
 use Rattle.std.proofs.lemmas.List.{at_drop_more, at_drop_all, get_or_past}
 use Rattle.std.specs.List.{list_all, range_with_len, enumerate_from, slice_get}
@@ -11,7 +11,7 @@ use Rattle.text.specs.declared.line.Word.{Word}
 use Rattle.text.specs.Numbers.{whole_of, kind_of}
 use Rattle.text.specs.Values.{values}
 use Rattle.kinds.specs.Named.{names, there, all_there}
-use Rattle.kinds.specs.Kinds.{same_kind, kind_in, head_in, starts, takes}
+use Rattle.kinds.specs.Kinds.{same_kind, kind_in, starts, takes}
 
 -- `all` over the indices from a to n, against a rule that goes on from each of them
 over_range : (test rule : ℕ → Bool) (n a k : ℕ) → a + k ≡ n → ((j : ℕ) → j < n → rule j ≡ (test j && rule (j + 1))) → rule n ≡ true → list_all test (range_with_len a k) ≡ rule a

@@ -19,8 +19,7 @@ fn heads<'a>(heap: Global, text: &'a [u8]) -> Result<Vec<Fields<'a>>, AllocError
     ensures { IfOk result (λ v. heads_held v.items ≡ heads_of (lines_of text.now)) }
 {
     let mut heads = Vec::new(heap);
-    let mut lines = Lines::of(text);
-    while let Some(line) = lines.next_line() {
+    for line in Lines::of(text) {
         let Parts { word, fields, .. } = line.parts();
         if let Word::Fun = word {
             heads.push(fields)?;
@@ -36,8 +35,7 @@ fn check_rules(heap: Global, text: &[u8]) -> Result<(), Refusal>
     check_shape(text)?;
     let heads = heads(heap, text)?;
     let mut scope = Scope::of(heap, heads);
-    let mut lines = Lines::of(text);
-    while let Some(line) = lines.next_line() {
+    for line in Lines::of(text) {
         let parts = line.parts();
         scope.judge(parts)?;
         scope.pass(heap, parts)?;

@@ -1,4 +1,4 @@
-use Rattle.std.proofs.Common.{vec_items, ap, sym, ◌∙◌, rules}
+use Rattle.std.proofs.Common.{vec_items, ap, sym, ◌∙◌}
 use Rattle.std.proofs.slice.Searches.{copied_from_item}
 use Rattle.std.specs.List.{slice_get}
 use Rattle.std.specs.Option.{unwrap_or}
