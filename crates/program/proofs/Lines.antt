@@ -11,7 +11,7 @@ use Rattle.shape.specs.declared.standing.Part.{Part}
 use Rattle.shape.specs.declared.standing.Part.TheVariants as p
 use Rattle.shape.specs.declared.standing.Due.{Due}
 use Rattle.shape.specs.declared.standing.Due.TheVariants as d
-use Rattle.shape.specs.Parts.{part_of, fits, is_tail}
+use Rattle.shape.specs.Parts.{part_of, fits}
 use Rattle.kinds.specs.Kinds.{kinds_in, or_number}
 use Rattle.program.specs.declared.function.Function.{Function}
 use Rattle.program.specs.Programs.{command_line, tail_line, head_said, function_lines, lines_with, wholes}
@@ -22,19 +22,12 @@ use Rattle.program.proofs.Entries.{two_back}
 pub next_formed : (due : Due) (l m : List Said) (k : Word) (zs : List ℤ) (x : Said) → l ≡ x ∷ m → (k, zs) ≡ x → Formed due l → (fits due (part_of k) ≡ true) × Held k zs × Formed (due_after (part_of k)) m
 next_formed due l m k zs x e q f = subst (Formed due) (e ∙ ap (λ y. y ∷ m) (sym q)) f
 
-pub body_tail : (x : Part) → fits d.Body x ≡ true → is_tail x ≡ true → x ≡ p.Tail
-body_tail p.Tail f t = refl
-body_tail p.Inputs f t = absurd (let z : ◌≡◌ {A = ℕ} 0 1 = cc in omega arith)
-body_tail p.Run f t = absurd (let z : ◌≡◌ {A = ℕ} 0 1 = cc in omega arith)
-body_tail p.Head f t = absurd (let z : ◌≡◌ {A = ℕ} 0 1 = cc in omega arith)
-body_tail p.Command f t = absurd (let z : ◌≡◌ {A = ℕ} 0 1 = cc in omega arith)
-
-pub body_command : (x : Part) → fits d.Body x ≡ true → is_tail x ≡ false → x ≡ p.Command
+pub body_command : (x : Part) → fits d.Body x ≡ true → (x ≡ p.Tail → ⊥) → x ≡ p.Command
 body_command p.Command f t = refl
+body_command p.Tail f t = absurd (t refl)
 body_command p.Inputs f t = absurd (let z : ◌≡◌ {A = ℕ} 0 1 = cc in omega arith)
 body_command p.Run f t = absurd (let z : ◌≡◌ {A = ℕ} 0 1 = cc in omega arith)
 body_command p.Head f t = absurd (let z : ◌≡◌ {A = ℕ} 0 1 = cc in omega arith)
-body_command p.Tail f t = absurd (let z : ◌≡◌ {A = ℕ} 0 1 = cc in omega arith)
 
 -- the parts of one word
 abbrev single : Part → Bool

@@ -12,25 +12,16 @@ use crate::program::Program;
 use std::alloc::{AllocError, Global};
 use text::fields::Kind;
 
-// FUN 2, these commands, PUT 0
-fn puts_register_0(params: Vec<Kind>, commands: Vec<Command>) -> Function
-    ensures head { (result.result ≡ ModNumber) × (result.params ≡ params) }
-    ensures body { (result.commands ≡ commands) × (result.tail ≡ Put 0) }
-{
-    Function {
-        result: Kind::ModNumber,
-        params,
-        commands,
-        tail: Tail::Put { number: 0 },
-    }
-}
-
 // FUN 2; LIT 0; PUT 0
 fn writes_zero(heap: Global) -> Result<Function, AllocError>
     ensures { IfOk result (λ f. function_lines f ≡ zero_lines) }
 {
-    let commands = vec![in heap; Command::Lit { value: 0 }]?;
-    Ok(puts_register_0(Vec::new(heap), commands))
+    Ok(Function {
+        result: Kind::ModNumber,
+        params: Vec::new(heap),
+        commands: vec![in heap; Command::Lit { value: 0 }]?,
+        tail: Tail::Put { number: 0 },
+    })
 }
 
 fn steps_of(function: &Function) -> usize
@@ -58,10 +49,6 @@ impl Program {
         ensures value { result ≡ steps_in (viewed self.now).functions }
         ensures bound { result ≤ 512 }
     {
-        let mut steps = 0;
-        for function in self.functions.as_slice() {
-            steps += steps_of(function);
-        }
-        steps
+        self.functions.iter().map(steps_of).sum()
     }
 }
