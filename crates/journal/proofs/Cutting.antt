@@ -11,7 +11,7 @@ use Rattle.journal.specs.Cut.{Cut}
 
 -- the bytes before the first byte 10, it, and those behind
 split_at : (k j : ℕ) (bs : List ℕ) → line_end k bs ≡ Some j → (i : ℕ) → j ≡ k + i → bs ≡ take i bs ++ 10 ∷ drop (suc i) bs
-split_at k j [] e i q = absurd (let z : ◌≡◌ {A = ℕ} 0 1 = cc in omega arith)
+split_at k j [] e i q = absurd (cc)
 split_at k j (b ∷ bs) e zero q =
     ⊎_elim
     (λ h. ap (λ x. x ∷ bs) h.1)
