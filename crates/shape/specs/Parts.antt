@@ -1,5 +1,6 @@
 -- The parts of a text: what may stand where, how many fields a line has, and which numbers.
-use Rattle.std.specs.Prelude.{ℕ, ◌+◌, Bool, true, false, cond, ◌&&◌, List, [], ◌∷◌, drop, ℤ, pos, is_some, Some, None, Option, nat_le, slice_index_or}
+use Rattle.std.specs.Prelude.{ℕ, ◌+◌, Bool, true, false, cond, ◌&&◌, List, drop, ℤ, pos, is_some, Some, None, Option, nat_le, slice_index_or}
+use Rattle.std.specs.List.{list_all}
 use Rattle.text.specs.declared.fields.Kind.{Kind}
 use Rattle.text.specs.declared.fields.Kind.TheVariants as k
 use Rattle.text.specs.declared.line.Word.{Word}
@@ -110,8 +111,7 @@ result_kind (Some k.ModNumber) = true
 result_kind (Some k.ModList) = true
 
 abbrev pub all_kinds : List ℤ → Bool
-all_kinds [] = true
-all_kinds (z ∷ zs) = is_some (kind_of z) && all_kinds zs
+all_kinds zs = list_all (λ z. is_some (kind_of z)) zs
 
 abbrev pub head_stands : List ℤ → Bool
 head_stands zs = result_kind (kind_of (slice_index_or zs 0 (pos 0))) && all_kinds (drop 1 zs)

@@ -12,12 +12,10 @@ pub fn check_shape(text: &[u8]) -> Result<(), ShapeFault>
     ensures { result ≡ answer tt (shape_fault text.now) }
 {
     check_lines(text)?;
-    let mut lines = Lines::of(text);
-    let mut standing = Standing::first();
-    let mut next = lines.next_line();
-    while let Some(line) = next {
-        next = lines.next_line();
-        standing = standing.take(line, next.is_none())?;
+    let mut lines = Lines::of(text).peekable();
+    let mut standing = Standing::default();
+    while let Some(line) = lines.next() {
+        standing = standing.take(line, lines.peek().is_none())?;
     }
     Ok(())
 }

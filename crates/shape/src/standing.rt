@@ -1,11 +1,14 @@
-ghost use Rattle.std.specs.Prelude.{◌≡◌, ◌+◌, ◌<◌, ◌≤◌, length};
+ghost use Rattle.std.specs.Prelude.{◌≡◌, length, pos, false, slice_index_or};
+ghost use Rattle.std.specs.Range.{range_inclusive_start, range_inclusive_end, range_inclusive_exhausted};
 ghost use Rattle.text.specs.First.{answer};
+ghost use Rattle.text.specs.Numbers.{whole_of};
 ghost use Rattle.text.specs.Told.{numbered, said};
 ghost use Rattle.text.specs.Values.{values};
 ghost use Rattle.shape.specs.Parts.{part_of, placed, fewest, most, counted, result_kind, all_kinds, head_stands, inputs_fit};
 ghost use Rattle.shape.specs.Shapes.{ranged, if_so, behind_part, after, shape_rules, start};
 
 use crate::fault::ShapeFault;
+use std::ops::RangeInclusive;
 use text::fields::{Fields, Kind};
 use text::line::{Line, Parts, Word};
 
@@ -16,7 +19,7 @@ const STEPS: usize = 512;
 
 const REGISTERS: usize = 16;
 
-const INPUTS: usize = 256;
+pub const INPUTS: usize = 256;
 
 // The parts of a text: INP, RUN, FUN, a command, a tail.
 #[derive(Clone, Copy, PartialEq, Eq)]
@@ -29,8 +32,9 @@ pub enum Part {
 }
 
 // What has to come next: INP, RUN, FUN, or a command or tail.
-#[derive(Clone, Copy, PartialEq, Eq)]
+#[derive(Clone, Copy, PartialEq, Eq, Default)]
 pub enum Due {
+    #[default]
     Inputs,
     Run,
     Head,
@@ -38,8 +42,8 @@ pub enum Due {
 }
 
 // How things stand behind a line: what is due, how many functions and how many commands and tails there were, and how
-// many registers the function has.
-#[derive(Clone, Copy)]
+// many registers the function has. The default is how they stand before the first line.
+#[derive(Clone, Copy, Default)]
 pub struct Standing {
     due: Due,
     functions: usize,
@@ -80,9 +84,11 @@ fn in_place(due: Due, part: Part, last: bool) -> bool
     }
 }
 
-// The fewest and the most fields of a line.
-fn bounds(word: Word) -> (usize, usize)
-    ensures { (result.0 ≡ fewest word) × (result.1 ≡ most word) }
+// From the fewest fields of a line to the most.
+fn field_counts(word: Word) -> RangeInclusive<usize>
+    ensures fewest { range_inclusive_start result ≡ fewest word }
+    ensures most { range_inclusive_end result ≡ most word }
+    ensures unused { range_inclusive_exhausted result ≡ false }
 {
     match word {
         Word::Inp
@@ -92,41 +98,28 @@ fn bounds(word: Word) -> (usize, usize)
         | Word::Div
         | Word::Min
         | Word::Max
-        | Word::Con => (2, 2),
-        Word::Run => (0, 6),
-        Word::Lit | Word::Put => (1, 1),
-        Word::Fun | Word::New => (1, 7),
-        Word::Nil => (0, 0),
-        Word::Get => (2, 7),
-        Word::Cas => (3, 7),
+        | Word::Con => 2..=2,
+        Word::Run => 0..=6,
+        Word::Lit | Word::Put => 1..=1,
+        Word::Fun | Word::New => 1..=7,
+        Word::Nil => 0..=0,
+        Word::Get => 2..=7,
+        Word::Cas => 3..=7,
     }
-}
-
-fn right_count(word: Word, count: usize) -> bool
-    ensures { result ≡ counted word count }
-{
-    let (low, high) = bounds(word);
-    low <= count && count <= high
 }
 
 fn is_result(kind: Option<Kind>) -> bool
     ensures { result ≡ result_kind kind }
 {
-    match kind {
-        Some(Kind::ModNumber) | Some(Kind::ModList) => true,
-        Some(Kind::Number) | None => false,
-    }
+    matches!(kind, Some(Kind::ModNumber | Kind::ModList))
 }
 
 fn are_kinds(fields: Fields<'_>) -> bool
     ensures { result ≡ all_kinds (values fields.entry) }
 {
-    for j in 0..fields.count() {
-        if fields.kind(j).is_none() {
-            return false;
-        }
-    }
-    true
+    fields
+        .numbers()
+        .all(|number| Kind::try_from(number).is_ok())
 }
 
 // Whether these are a result's kind and parameters' kinds.
@@ -136,35 +129,23 @@ fn is_head(fields: Fields<'_>) -> bool
     is_result(fields.kind(0)) && are_kinds(fields.skip(1))
 }
 
-fn inputs_in_range(numbers: Option<usize>, lists: Option<usize>) -> bool
-    ensures { result ≡ inputs_fit numbers lists }
+fn inputs_in_range(fields: Fields<'_>) -> bool
+    ensures { result ≡ inputs_fit (whole_of (slice_index_or (values fields.entry) 0 (pos 0))) (whole_of (slice_index_or (values fields.entry) 1 (pos 0))) }
 {
-    match (numbers, lists) {
-        (Some(a), Some(b)) => a <= INPUTS && b <= INPUTS && 1 <= a + b && a + b <= INPUTS,
+    match (fields.index(0), fields.index(1)) {
+        (Some(numbers), Some(lists)) => { (1..=INPUTS).contains(&numbers.saturating_add(lists)) }
         _ => false,
     }
 }
 
 impl Standing {
-    // Before the first line.
-    pub(crate) fn first() -> Standing
-        ensures { result ≡ start }
-    {
-        Standing {
-            due: Due::Inputs,
-            functions: 0,
-            steps: 0,
-            registers: 0,
-        }
-    }
-
     // How things stand behind a line, unless it passes a range or a limit.
     fn behind(&self, part: Part, fields: Fields<'_>) -> Option<Standing>
         ensures { result ≡ if_so (ranged self.now part (values fields.entry)) (behind_part self.now part (length (values fields.entry))) }
     {
         match part {
             Part::Inputs => {
-                if !inputs_in_range(fields.index(0), fields.index(1)) {
+                if !inputs_in_range(fields) {
                     return None;
                 }
                 Some(Standing {
@@ -224,12 +205,10 @@ impl Standing {
         if !in_place(self.due, part, last) {
             return Err(ShapeFault::Position { line: number });
         }
-        if !right_count(word, fields.count()) {
+        if !field_counts(word).contains(&fields.count()) {
             return Err(ShapeFault::Count { line: number });
         }
-        match self.behind(part, fields) {
-            Some(next) => Ok(next),
-            None => Err(ShapeFault::Range { line: number }),
-        }
+        self.behind(part, fields)
+            .ok_or(ShapeFault::Range { line: number })
     }
 }

@@ -1,5 +1,5 @@
 -- How the reader cuts a text into its lines.
-use Rattle.std.proofs.Common.{◌≡◌, ℕ, suc, ◌+◌, ◌<◌, ◌≤◌, Bool, true, false, cond, ◌&&◌, eqb, leb, List, [], ◌∷◌, map, length, get_or, take, drop, Some, None, Ok, Err, Option, Result, sym, refl, ap, ◌∙◌, ⊎_elim, arith, length-drop}
+use Rattle.std.proofs.Common.{◌≡◌, ℕ, suc, ◌+◌, ◌<◌, ◌≤◌, Bool, true, false, cond, ◌&&◌, leb, List, [], ◌∷◌, map, length, get_or, take, drop, Some, None, Ok, Err, Option, Result, sym, refl, ap, ◌∙◌, ⊎_elim, arith, length-drop}
 use Rattle.std.proofs.lemmas.Bool.{le-leb}
 use Rattle.std.proofs.lemmas.Bool.Decides.{eqb_tells}
 use Rattle.text.specs.declared.line.Word.{Word}
@@ -8,14 +8,12 @@ use Rattle.text.specs.declared.line.LineFault.TheVariants as f
 use Rattle.text.specs.First.{or_else, no_fault, none_left}
 use Rattle.text.specs.Lines.{Said, Told, line_end, right_length, line_of, Raw, longer, lines_in, line_fault, fault_in, standing, lines_of, reading, worded, word_of, or_nil, text_fault}
 use Rattle.text.specs.Numbers.{fields_stand, numbers_in}
-use Rattle.text.specs.Reader.{Reads, Falls}
+use Rattle.text.specs.Reader.{Reads, Falls, left, passed, unread, HandsOut, TellsNext}
+use Rattle.text.specs.Told.{said}
+use Rattle.text.specs.declared.line.Line.{Line}
+use Rattle.text.specs.declared.lines.Lines.{Lines}
+use Rattle.std.specs.Result.{result_ok}
 use Rattle.text.proofs.Passes.{or_none}
-
-pub end_here : (i b : ℕ) (bs : List ℕ) → true ≡ eqb b 10 → line_end i (b ∷ bs) ≡ Some i
-end_here i b bs e = ap (λ t. cond t (Some i) (line_end (i + 1) bs)) (sym e)
-
-pub end_on : (i b : ℕ) (bs : List ℕ) → false ≡ eqb b 10 → line_end i (b ∷ bs) ≡ line_end (i + 1) bs
-end_on i b bs e = ap (λ t. cond t (Some i) (line_end (i + 1) bs)) (sym e)
 
 pub record Cut (k j : ℕ) (bs : List ℕ) : Type 0 where
   pub size : ℕ
@@ -119,6 +117,26 @@ pub lines_left : (n m : ℕ) (bs : List ℕ) (x : Said) (behind : List ℕ) → 
 lines_left n m bs x behind r =
     let e = line_said n r.line (m, x) r.stands in
     (ap (standing n) r.lines ∙ ap (λ t. cond (no_fault (fault_in t)) (reading (true, r.line) ∷ standing (n + 1) (lines_in behind)) []) r.stands ∙ ap (λ (y : Told). y.1 ∷ standing (n + 1) (lines_in behind)) (sym e), ap (λ (y : Told). y.0) e)
+
+-- where a line is told it is handed out
+pub handed_out : (l : Lines) (r : Result Line LineFault) (m : Lines) → TellsNext l (Some r) m → HandsOut l (result_ok r) m
+handed_out l (Ok x) m h =
+    let e = lines_left (passed l + 1) _ (unread l) _ _ h.0 in
+    (e.0 ∙ ap (λ n. said x ∷ standing (n + 1) (lines_in (unread m))) (sym h.1), e.1, h.1)
+handed_out l (Err f) m h =
+    let e = none_stands (passed l + 1) (unread l) f h.0 in
+    (e, ap left h.1 ∙ e, ap passed h.1)
+
+-- where a line is told the fault is that of the lines behind it
+pub told_on : (l : Lines) (r : Result Line LineFault) (m : Lines) (x : Line) → TellsNext l (Some r) m → r ≡ Ok x → (line_fault (passed m + 1) (lines_in (unread m)) ≡ line_fault (passed l + 1) (lines_in (unread l))) × (length (unread m) < length (unread l))
+told_on l (Ok y) m x h e =
+    (ap (λ n. line_fault (n + 1) (lines_in (unread m))) h.1 ∙ sym (read_on (passed l + 1) (unread l) _ _ h.0), h.0.shorter)
+told_on l (Err f) m x h e = absurd (let z : ◌≡◌ {A = ℕ} 0 1 = cc in omega arith)
+
+-- where a fault is told it is the fault of the lines that are left
+pub told_fault : (l : Lines) (r : Result Line LineFault) (m : Lines) (f : LineFault) → TellsNext l (Some r) m → r ≡ Err f → line_fault (passed l + 1) (lines_in (unread l)) ≡ Some f
+told_fault l (Ok y) m f h e = absurd (let z : ◌≡◌ {A = ℕ} 0 1 = cc in omega arith)
+told_fault l (Err g) m f h e = let same : g ≡ f = cc in fallen (passed l + 1) (unread l) g h.0 ∙ ap Some same
 
 by_length : (b : Bool) (o : Option LineFault) → cond b o (Some (f.Length 0)) ≡ None → o ≡ None
 by_length true o e = e

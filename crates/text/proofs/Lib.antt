@@ -1,5 +1,5 @@
 mod FieldRule
-mod Numbers
+pub mod Numbers
 mod LineForms
 mod Columns
 pub mod Rendered

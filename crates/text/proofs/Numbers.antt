@@ -1,8 +1,16 @@
 -- The numbers of a line's fields, by place.
-use Rattle.std.proofs.Common.{◌≡◌, ℕ, zero, suc, ◌+◌, ◌*◌, ◌/◌, ◌<◌, ◌≤◌, true, false, ◌&&◌, List, [], ◌∷◌, length, get_or, take, drop, pos, is_some, unwrap_or, sym, refl, ap, ◌∙◌, arith, length-drop}
+use Rattle.std.proofs.Common.{◌≡◌, ℕ, zero, suc, ◌+◌, ◌*◌, ◌/◌, ◌<◌, ◌≤◌, ◌&&◌, List, [], ◌∷◌, length, get_or, take, drop, ℤ, pos, is_some, is_ok, unwrap_or, Ok, Err, Result, sym, refl, ap, ◌∙◌, arith, length-append, length-drop, ◌++◌}
+use Rattle.std.proofs.Math.Seq.{take-append_seam, drop-append_seam}
 use Rattle.std.proofs.lemmas.List.{drop-drop}
+use Rattle.std.proofs.lemmas.Iterator.{YieldsList}
+use Rattle.std.proofs.lemmas.Iterator.Splits.{YieldsList-from_shown_while}
+use Rattle.std.specs.List.{list_all}
+use Rattle.std.specs.Slice.Iter.{chunks_exact_rest, chunks_exact_size, chunks_exact_steps}
+use Rattle.std.specs.declared.slice.ChunksExact.{ChunksExact}
 use Rattle.text.specs.Field.{field_value}
-use Rattle.text.specs.Numbers.{fields_stand, numbers, numbers_in}
+use Rattle.text.specs.Numbers.{fields_stand, numbers, numbers_in, kind_of, Names}
+use Rattle.text.specs.declared.fields.Kind.{Kind}
+use Rattle.text.specs.declared.fields.UnknownKind.{UnknownKind}
 
 pub length_numbers : (k : ℕ) (bs : List ℕ) → length (numbers k bs) ≡ k
 length_numbers zero bs = refl
@@ -34,12 +42,34 @@ numbers_drop (suc k) bs l =
     let g : 6 * k ≤ length (drop 6 bs) = omega (arith, length-drop 6 bs) in
     ap numbers_in (sym (drop-drop (6 * k) 6 bs ∙ ap (λ m. drop m bs) e)) ∙ numbers_drop k (drop 6 bs) g ∙ sym (ap (drop (suc k)) (numbers_more bs h))
 
-pub stand_more : (xs ys : List ℕ) → ys ≡ drop 6 xs → 6 ≤ length xs → is_some (field_value (take 6 xs)) ≡ true → fields_stand (length xs / 6) xs ≡ fields_stand (length ys / 6) ys
-stand_more xs ys is l t =
-    let e : length xs / 6 ≡ suc (length (drop 6 xs) / 6) = omega (arith, length-drop 6 xs) in
-    ap (λ k. fields_stand k xs) e ∙ ap (λ b. b && fields_stand (length (drop 6 xs) / 6) (drop 6 xs)) t ∙ ap (λ (zs : List ℕ). fields_stand (length zs / 6) zs) (sym is)
+-- so many fields, as lists of their columns
+abbrev pub sixes : ℕ → List ℕ → List (List ℕ)
+sixes zero bs = []
+sixes (suc k) bs = take 6 bs ∷ sixes k (drop 6 bs)
 
-pub stand_fails : (xs : List ℕ) → 6 ≤ length xs → is_some (field_value (take 6 xs)) ≡ false → fields_stand (length xs / 6) xs ≡ false
-stand_fails xs l t =
-    let e : length xs / 6 ≡ suc (length (drop 6 xs) / 6) = omega (arith, length-drop 6 xs) in
-    ap (λ k. fields_stand k xs) e ∙ ap (λ b. b && fields_stand (length (drop 6 xs) / 6) (drop 6 xs)) t
+pub stand_is : (k : ℕ) (bs : List ℕ) → list_all (λ c. is_some (field_value c)) (sixes k bs) ≡ fields_stand k bs
+stand_is zero bs = refl
+stand_is (suc k) bs = ap (λ b. is_some (field_value (take 6 bs)) && b) (stand_is k (drop 6 bs))
+
+sixes_none : (bs : List ℕ) → length bs < 6 → sixes (length bs / 6) bs ≡ []
+sixes_none bs l = let e : length bs / 6 ≡ 0 = omega arith in ap (λ k. sixes k bs) e
+
+sixes_more : (xs ys : List ℕ) → length xs ≡ 6 → sixes (length (xs ++ ys) / 6) (xs ++ ys) ≡ xs ∷ sixes (length ys / 6) ys
+sixes_more xs ys l =
+    let e : length (xs ++ ys) / 6 ≡ suc (length ys / 6) = omega (arith, length-append xs ys) in
+    let front : take 6 (xs ++ ys) ≡ xs = ap (λ n. take n (xs ++ ys)) (sym l) ∙ take-append_seam xs ys in
+    let behind : drop 6 (xs ++ ys) ≡ ys = ap (λ n. drop n (xs ++ ys)) (sym l) ∙ drop-append_seam xs ys in
+    ap (λ k. sixes k (xs ++ ys)) e ∙ (λ i. front i ∷ sixes (length ys / 6) (behind i))
+
+-- chunks of six columns are the fields
+pub YieldsList-from_fields : (s : ChunksExact ℕ) → chunks_exact_size s ≡ 6 → YieldsList chunks_exact_steps (λ x. x.now) s (sixes (length (chunks_exact_rest s) / 6) (chunks_exact_rest s))
+YieldsList-from_fields s e =
+    YieldsList-from_shown_while chunks_exact_steps (λ x. x.now) (λ s. sixes (length (chunks_exact_rest s) / 6) (chunks_exact_rest s)) (λ s. chunks_exact_size s ≡ 6)
+    (λ s t p h. ap length (sixes_none (chunks_exact_rest s) (omega arith)))
+    (λ s x t p h. (h.0 ∙ p, ap (λ (bs : List ℕ). sixes (length bs / 6) bs) h.1.0 ∙ sixes_more x.now (chunks_exact_rest t) (h.1.1 ∙ p)))
+    s e
+
+-- whether a number names a kind
+pub named_is : (z : ℤ) (r : Result Kind UnknownKind) → Names z r → is_ok r ≡ is_some (kind_of z)
+named_is z (Ok k) e = ap is_some (sym e)
+named_is z (Err u) e = ap is_some (sym e.0)

@@ -1,7 +1,9 @@
 -- A line of a text: a word of three capital letters, up to nine fields of six columns, byte 10.
-use Rattle.std.specs.Prelude.{ℕ, ◌+◌, ◌-◌, ◌/◌, ◌%◌, Bool, true, false, cond, ◌&&◌, List, [], ◌∷◌, map, length, drop, ℤ, Some, None, Ok, Err, Option, Result, ◌==◌, nat_le, slice_index}
+use Rattle.std.specs.Prelude.{◌≡◌, ℕ, ◌+◌, ◌-◌, ◌/◌, ◌%◌, Bool, true, false, cond, ◌&&◌, List, [], ◌∷◌, map, length, drop, ℤ, Some, None, Ok, Err, Option, Result, ◌==◌, nat_le, slice_index}
+use Rattle.std.specs.List.{position_from}
 use Rattle.text.specs.declared.line.Word.{Word}
 use Rattle.text.specs.declared.line.Word.TheVariants as w
+use Rattle.text.specs.declared.line.UnknownWord.{UnknownWord}
 use Rattle.text.specs.declared.line.LineFault.{LineFault}
 use Rattle.text.specs.declared.line.LineFault.TheVariants as f
 use Rattle.text.specs.First.{first, no_fault}
@@ -28,6 +30,11 @@ word_of a b c =
     (cond (spelled a b c 67 79 78) (Some w.Con)
     (cond (spelled a b c 71 69 84) (Some w.Get)
     (cond (spelled a b c 67 65 83) (Some w.Cas) None)))))))))))))))
+
+-- r is the word that three bytes spell, or says that they spell none
+abbrev pub Spells : List ℕ → Result Word UnknownWord → Type 0
+Spells bs (Ok k) = word_of (slice_index bs 0) (slice_index bs 1) (slice_index bs 2) ≡ Some k
+Spells bs (Err e) = (word_of (slice_index bs 0) (slice_index bs 1) (slice_index bs 2) ≡ None) × (e ≡ record { 0 = bs })
 
 -- a line as it is told: its word and the numbers in its fields
 abbrev pub Said : Type 0
@@ -104,5 +111,4 @@ lines_of bs = map reading (lines_in bs)
 
 -- the place of the first byte 10, where the bytes stand from place i on
 abbrev pub line_end : ℕ → List ℕ → Option ℕ
-line_end i [] = None
-line_end i (b ∷ bs) = cond (b == 10) (Some i) (line_end (i + 1) bs)
+line_end i bs = position_from (λ b. b == 10) i bs

@@ -1,8 +1,9 @@
 -- The numbers in a line's fields.
-use Rattle.std.specs.Prelude.{ℕ, zero, suc, ◌/◌, Bool, true, cond, ◌&&◌, List, [], ◌∷◌, length, take, drop, ℤ, pos, negsuc, is_some, Some, None, Option, ◌==◌}
+use Rattle.std.specs.Prelude.{ℕ, zero, suc, ◌/◌, Bool, true, cond, ◌&&◌, List, [], ◌∷◌, length, take, drop, ℤ, pos, negsuc, is_some, Some, None, Option, Ok, Err, Result, ◌≡◌, ◌==◌}
 use Rattle.std.specs.Option.{unwrap_or}
 use Rattle.text.specs.declared.fields.Kind.{Kind}
 use Rattle.text.specs.declared.fields.Kind.TheVariants as k
+use Rattle.text.specs.declared.fields.UnknownKind.{UnknownKind}
 use Rattle.text.specs.Field.{field_value}
 
 -- each of the first k fields is a number
@@ -30,3 +31,8 @@ kind_at n = cond (n == 1) (Some k.Number) (cond (n == 2) (Some k.ModNumber) (con
 abbrev pub kind_of : ℤ → Option Kind
 kind_of (pos n) = kind_at n
 kind_of (negsuc n) = None
+
+-- r is the kind that a number names, or says that it names none
+abbrev pub Names : ℤ → Result Kind UnknownKind → Type 0
+Names z (Ok k) = kind_of z ≡ Some k
+Names z (Err e) = (kind_of z ≡ None) × (e ≡ record { 0 = z })

@@ -1,14 +1,18 @@
 -- What a reader of lines has left, and what it hands out.
-use Rattle.std.specs.Prelude.{◌≡◌, ℕ, ◌+◌, ◌<◌, Bool, true, List, [], ◌∷◌, length, Some, None, Ok, Option}
+use Rattle.std.specs.Prelude.{◌≡◌, ℕ, ◌+◌, ◌<◌, Bool, true, List, [], ◌∷◌, length, Some, None, Ok, Err, Option, Result}
 use Rattle.text.specs.declared.line.Line.{Line}
 use Rattle.text.specs.declared.line.LineFault.{LineFault}
 use Rattle.text.specs.declared.lines.Lines.{Lines}
 use Rattle.text.specs.Lines.{Said, Told, Raw, lines_in, line_of, line_rules, standing}
 use Rattle.text.specs.Told.{numbered, said}
 
+-- the bytes of the lines that are left
+abbrev pub unread : Lines → List ℕ
+unread l = l.rest.now
+
 -- the lines that are left, up to the first that breaks a rule of layer 1
 abbrev pub left : Lines → List Said
-left l = standing (l.passed + 1) (lines_in l.rest.now)
+left l = standing (l.passed + 1) (lines_in (unread l))
 
 -- how many lines were handed out
 abbrev pub passed : Lines → ℕ
@@ -27,6 +31,12 @@ pub record Falls (n : ℕ) (bs : List ℕ) (y : LineFault) : Type 0 where
   pub behind : List Raw
   pub lines : lines_in bs ≡ line ∷ behind
   pub broken : (last : Bool) → line_rules tt n line last ≡ Some y
+
+-- what is told of the next line, which is passed where it keeps the rules of layer 1; or none is left
+abbrev pub TellsNext : Lines → Option (Result Line LineFault) → Lines → Type 0
+TellsNext l None m = (unread l ≡ []) × (m ≡ l)
+TellsNext l (Some (Ok x)) m = Reads (passed l + 1) (unread l) (numbered x, said x) (unread m) × (passed m ≡ passed l + 1)
+TellsNext l (Some (Err f)) m = Falls (passed l + 1) (unread l) f × (m ≡ l)
 
 -- the next line is handed out, under the next number; or no line is left
 abbrev pub HandsOut : Lines → Option Line → Lines → Type 0

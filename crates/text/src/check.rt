@@ -3,8 +3,8 @@ ghost use Rattle.text.specs.First.{answer};
 ghost use Rattle.text.specs.Lines.{text_fault};
 ghost use Rattle.text.specs.Laws.{FieldsAreColumns, ColumnsReadBack, TextsAreRendered, LinesReadBack};
 
-use crate::cut::first_line;
 use crate::line::LineFault;
+use crate::lines::Lines;
 
 // The most bytes of a text.
 const LONGEST: usize = 65536;
@@ -13,15 +13,12 @@ const LONGEST: usize = 65536;
 fn check_each(text: &[u8]) -> Result<(), LineFault>
     ensures { result ≡ answer tt (text_fault text.now) }
 {
-    if text.len() < 1 || text.len() > LONGEST {
+    if text.is_empty() || text.len() > LONGEST {
         return Err(LineFault::Length { line: 0 });
     }
-    let mut rest = text;
-    let mut number = 1usize;
-    while rest.len() > 0 {
-        let (_line, behind) = first_line(number, rest)?;
-        rest = behind;
-        number += 1;
+    let mut lines = Lines::of(text);
+    while let Some(line) = lines.tell_next() {
+        line?;
     }
     Ok(())
 }

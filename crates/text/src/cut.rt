@@ -1,27 +1,16 @@
-ghost use Rattle.std.specs.Prelude.{◌≡◌, ◌<◌, length, IfSome, MatchResult, ◌==◌};
+ghost use Rattle.std.specs.Prelude.{◌≡◌, ◌<◌, length, IfSome, MatchResult};
 ghost use Rattle.text.specs.Lines.{line_end};
 ghost use Rattle.text.specs.Told.{numbered, said};
 ghost use Rattle.text.specs.Reader.{Reads, Falls};
 
 use crate::line::{Line, LineFault, read};
 
-fn is_newline(b: u8) -> bool
-    ensures { result ≡ (b == 10) }
-{
-    b == b'\n'
-}
-
 // Where the first line ends, if a byte 10 ends it.
 pub fn line_end_of(text: &[u8]) -> Option<usize>
     ensures value { result ≡ line_end 0 text.now }
     ensures bound { IfSome result (λ i. i < length text.now) }
 {
-    for (i, b) in text.iter().enumerate() {
-        if is_newline(*b) {
-            return Some(i);
-        }
-    }
-    None
+    text.iter().position(|b| *b == b'\n')
 }
 
 // The first line, which bears this number, and what stands behind it.

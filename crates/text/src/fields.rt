@@ -1,7 +1,7 @@
 ghost use Rattle.std.specs.Prelude.{◌≡◌, ◌/◌, ◌%◌, ◌<◌, ◌≤◌, [], length, drop, pos, IfSome, slice_index_or};
 ghost use Rattle.text.specs.Field.{digits_on, natural_of, unspaced, field_value, as_positive, as_negative};
 ghost use Rattle.text.specs.Numbers.{fields_stand, whole_of, kind_of};
-ghost use Rattle.text.specs.Values.{values};
+ghost use Rattle.text.specs.Values.{values, numbers_left};
 
 // The columns of a field.
 pub(crate) const WIDTH: usize = 6;
@@ -12,6 +12,27 @@ pub enum Kind {
     Number,
     ModNumber,
     ModList,
+}
+
+// A number that names no kind.
+#[derive(Clone, Copy, PartialEq, Eq, Debug)]
+pub struct UnknownKind(pub i32);
+
+impl TryFrom<i32> for Kind {
+    ghost use Rattle.text.specs.Numbers.{Names};
+
+    type Error = UnknownKind;
+
+    ghost try_from_gives = { Names };
+
+    fn try_from(number: i32) -> Result<Kind, UnknownKind> {
+        match number {
+            1 => Ok(Kind::Number),
+            2 => Ok(Kind::ModNumber),
+            3 => Ok(Kind::ModList),
+            _ => Err(UnknownKind(number)),
+        }
+    }
 }
 
 // The fields of a line, six columns each: a part of the text.
@@ -38,93 +59,81 @@ impl<'a> Fields<'a> {
     pub fn count(self) -> usize
         ensures { result ≡ length (values self.entry) }
     {
-        fields_in(self.columns.len())
+        self.columns.len() / WIDTH
+    }
+
+    // The numbers in the fields, in order.
+    pub fn numbers(self) -> Numbers<'a>
+        ensures { numbers_left result ≡ values self.entry }
+    {
+        Numbers {
+            columns: self.columns,
+        }
     }
 
     // The number in field j, or 0 where there is no field j.
     pub fn number(self, j: usize) -> i32
         ensures { result ≡ slice_index_or (values self.entry) j (pos 0) }
     {
-        if j >= self.count() {
-            return 0;
-        }
-        let columns = self.columns;
-        field(&columns[WIDTH * j..WIDTH * j + WIDTH]).unwrap_or(0)
+        self.skip(j).numbers().next().unwrap_or(0)
     }
 
     // The number in field j, where it is not negative.
     pub fn index(self, j: usize) -> Option<usize>
         ensures { result ≡ whole_of (slice_index_or (values self.entry) j (pos 0)) }
     {
-        whole(self.number(j))
+        usize::try_from(self.number(j)).ok()
     }
 
     // The kind that field j names.
     pub fn kind(self, j: usize) -> Option<Kind>
         ensures { result ≡ kind_of (slice_index_or (values self.entry) j (pos 0)) }
     {
-        as_kind(self.number(j))
+        Kind::try_from(self.number(j)).ok()
     }
 
     // The fields from field k on.
     pub fn skip(self, k: usize) -> Fields<'a>
         ensures { values result ≡ drop k (values self.entry) }
     {
-        if k >= self.count() {
-            return Fields::none();
-        }
-        Fields {
-            columns: columns_from(self.columns, WIDTH * k),
+        match self.columns.get(WIDTH.saturating_mul(k)..) {
+            Some(columns) => Fields { columns },
+            None => Fields::none(),
         }
     }
 }
 
-// How many fields so many columns are.
-fn fields_in(columns: usize) -> usize
-    ensures { result ≡ columns / 6 }
-{
-    columns / WIDTH
+// The numbers in the fields of a line, in order.
+#[derive(Drop)]
+pub struct Numbers<'a> {
+    columns: &'a [u8],
 }
 
-// The columns from column `start` on.
-fn columns_from(columns: &[u8], start: usize) -> &[u8]
-    requires { start ≤ length columns.now }
-    ensures { result.now ≡ drop start columns.now }
-{
-    let (_, rest) = columns.split_at(start);
-    rest
-}
+impl<'a> Iterator for Numbers<'a> {
+    ghost use Rattle.std.specs.Iterator.{YieldsFirst, item_count};
+    ghost use Rattle.text.specs.Values.{numbers_left};
 
-fn whole(v: i32) -> Option<usize>
-    ensures { result ≡ whole_of v }
-{
-    if v < 0 { None } else { Some(v as usize) }
-}
+    type Item = i32;
 
-fn as_kind(v: i32) -> Option<Kind>
-    ensures { result ≡ kind_of v }
-{
-    match v {
-        1 => Some(Kind::Number),
-        2 => Some(Kind::ModNumber),
-        3 => Some(Kind::ModList),
-        _ => None,
+    ghost next_gives = { YieldsFirst numbers_left };
+
+    ghost remaining = { item_count numbers_left };
+
+    // A field that holds no number counts as 0.
+    fn next(&mut self) -> Option<i32> {
+        let (first, rest) = self.columns.split_at_checked(WIDTH)?;
+        self.columns = rest;
+        Some(field(first).unwrap_or(0))
     }
 }
 
 // Whether each field holds a number.
 pub(crate) fn all_stand(columns: &[u8]) -> bool
-    requires { length columns.now % 6 ≡ 0 }
     ensures { result ≡ fields_stand (length columns.now / 6) columns.now }
 {
-    let mut rest = columns;
-    while rest.len() >= WIDTH {
-        if field(&rest[0..WIDTH]).is_none() {
-            return false;
-        }
-        rest = &rest[WIDTH..];
-    }
-    true
+    columns
+        .chunks_exact(WIDTH)
+        .all(|columns| field(columns).is_some())
 }
 
 // The number that a field of six columns holds, or none where it holds no such number.
@@ -135,28 +144,8 @@ fn field(columns: &[u8]) -> Option<i32>
         return None;
     }
     match unspaced_part(columns) {
-        [b'-', digits @ ..] => negative(natural(digits)),
-        digits => positive(natural(digits)),
-    }
-}
-
-fn positive(n: Option<u32>) -> Option<i32>
-    requires { IfSome n (λ n. n < 1000000) }
-    ensures { result ≡ as_positive n }
-{
-    match n {
-        Some(n) => Some(n as i32),
-        None => None,
-    }
-}
-
-fn negative(n: Option<u32>) -> Option<i32>
-    requires { IfSome n (λ n. n < 1000000) }
-    ensures { result ≡ as_negative n }
-{
-    match n {
-        Some(0) | None => None,
-        Some(n) => Some(-(n as i32)),
+        [b'-', digits @ ..] => natural(digits).filter(|n| *n != 0).map(|n| -(n as i32)),
+        digits => natural(digits).map(|n| n as i32),
     }
 }
 
@@ -192,10 +181,7 @@ fn digits_value(digits: &[u8]) -> Option<u32>
 {
     let mut value = 0u32;
     for b in digits {
-        if *b < b'0' || *b > b'9' {
-            return None;
-        }
-        value = value * 10 + (*b - b'0') as u32;
+        value = value * 10 + char::from(*b).to_digit(10)?;
     }
     Some(value)
 }

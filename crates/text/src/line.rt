@@ -1,11 +1,11 @@
 ghost use Rattle.std.specs.Prelude.{◌≡◌, length};
-ghost use Rattle.text.specs.Lines.{word_of, line_of};
+ghost use Rattle.text.specs.Lines.{line_of};
 ghost use Rattle.text.specs.Told.{told, numbered, said, told_line};
 
 use crate::fields::{Fields, WIDTH, all_stand};
 
 // The columns of nine fields.
-const MOST_COLUMNS: usize = 54;
+const MOST_COLUMNS: usize = 9 * WIDTH;
 
 // The words that a line may begin with.
 #[derive(Clone, Copy, PartialEq, Eq, Debug)]
@@ -64,6 +64,7 @@ pub struct Parts<'a> {
 }
 
 // The faults of layer 1: a wrong length of the text or of a line, an unknown word, a field that is no number.
+// Each names its line: with a struct of a line and a kind, whoever matches a fault would take two steps for one.
 #[derive(Clone, Copy, PartialEq, Eq, Debug)]
 pub enum LineFault {
     Length { line: usize },
@@ -110,59 +111,74 @@ impl<'a> Line<'a> {
     }
 }
 
-fn spelled(a: u8, b: u8, c: u8) -> Option<Word>
-    ensures { result ≡ word_of a b c }
-{
-    match (a, b, c) {
-        (b'I', b'N', b'P') => Some(Word::Inp),
-        (b'R', b'U', b'N') => Some(Word::Run),
-        (b'F', b'U', b'N') => Some(Word::Fun),
-        (b'L', b'I', b'T') => Some(Word::Lit),
-        (b'A', b'D', b'D') => Some(Word::Add),
-        (b'S', b'U', b'B') => Some(Word::Sub),
-        (b'M', b'U', b'L') => Some(Word::Mul),
-        (b'D', b'I', b'V') => Some(Word::Div),
-        (b'M', b'I', b'N') => Some(Word::Min),
-        (b'M', b'A', b'X') => Some(Word::Max),
-        (b'N', b'E', b'W') => Some(Word::New),
-        (b'P', b'U', b'T') => Some(Word::Put),
-        (b'N', b'I', b'L') => Some(Word::Nil),
-        (b'C', b'O', b'N') => Some(Word::Con),
-        (b'G', b'E', b'T') => Some(Word::Get),
-        (b'C', b'A', b'S') => Some(Word::Cas),
-        _ => None,
+// Three bytes that spell no word.
+#[derive(Clone, Copy, PartialEq, Eq, Debug)]
+pub struct UnknownWord(pub [u8; 3]);
+
+impl TryFrom<[u8; 3]> for Word {
+    ghost use Rattle.text.specs.Lines.{Spells};
+
+    type Error = UnknownWord;
+
+    ghost try_from_gives = { Spells };
+
+    fn try_from(letters: [u8; 3]) -> Result<Word, UnknownWord> {
+        match &letters {
+            b"INP" => Ok(Word::Inp),
+            b"RUN" => Ok(Word::Run),
+            b"FUN" => Ok(Word::Fun),
+            b"LIT" => Ok(Word::Lit),
+            b"ADD" => Ok(Word::Add),
+            b"SUB" => Ok(Word::Sub),
+            b"MUL" => Ok(Word::Mul),
+            b"DIV" => Ok(Word::Div),
+            b"MIN" => Ok(Word::Min),
+            b"MAX" => Ok(Word::Max),
+            b"NEW" => Ok(Word::New),
+            b"PUT" => Ok(Word::Put),
+            b"NIL" => Ok(Word::Nil),
+            b"CON" => Ok(Word::Con),
+            b"GET" => Ok(Word::Get),
+            b"CAS" => Ok(Word::Cas),
+            _ => Err(UnknownWord(letters)),
+        }
     }
 }
 
-fn formed(parts: Parts<'_>) -> Line<'_>
-    ensures { (numbered result, said result) ≡ told parts.entry }
-{
-    let Parts {
-        number,
-        word,
-        fields,
-    } = parts;
-    match word {
-        Word::Inp => Line::Inputs { number, fields },
-        Word::Run => Line::Run { number, fields },
-        Word::Fun => Line::Function { number, fields },
-        Word::Lit
-        | Word::Add
-        | Word::Sub
-        | Word::Mul
-        | Word::Div
-        | Word::Min
-        | Word::Max
-        | Word::New => Line::Command {
+impl<'a> From<Parts<'a>> for Line<'a> {
+    ghost use Rattle.std.specs.Prelude.{◌≡◌};
+    ghost use Rattle.text.specs.Told.{told, numbered, said};
+
+    ghost from_gives = { λ p l. (numbered l, said l) ≡ told p };
+
+    fn from(parts: Parts<'a>) -> Line<'a> {
+        let Parts {
             number,
             word,
             fields,
-        },
-        Word::Put | Word::Nil | Word::Con | Word::Get | Word::Cas => Line::Tail {
-            number,
-            word,
-            fields,
-        },
+        } = parts;
+        match word {
+            Word::Inp => Line::Inputs { number, fields },
+            Word::Run => Line::Run { number, fields },
+            Word::Fun => Line::Function { number, fields },
+            Word::Lit
+            | Word::Add
+            | Word::Sub
+            | Word::Mul
+            | Word::Div
+            | Word::Min
+            | Word::Max
+            | Word::New => Line::Command {
+                number,
+                word,
+                fields,
+            },
+            Word::Put | Word::Nil | Word::Con | Word::Get | Word::Cas => Line::Tail {
+                number,
+                word,
+                fields,
+            },
+        }
     }
 }
 
@@ -176,13 +192,13 @@ pub(crate) fn read(number: usize, bytes: &[u8]) -> Result<Line<'_>, LineFault>
     if columns.len() % WIDTH != 0 || columns.len() > MOST_COLUMNS {
         return Err(LineFault::Length { line: number });
     }
-    let Some(word) = spelled(*a, *b, *c) else {
+    let Ok(word) = Word::try_from([*a, *b, *c]) else {
         return Err(LineFault::Word { line: number });
     };
     if !all_stand(columns) {
         return Err(LineFault::Field { line: number });
     }
-    Ok(formed(Parts {
+    Ok(Line::from(Parts {
         number,
         word,
         fields: Fields::over(columns),

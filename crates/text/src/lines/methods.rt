@@ -1,9 +1,9 @@
 ghost use Rattle.std.specs.Prelude.{◌≡◌};
 ghost use Rattle.text.specs.Lines.{lines_in, standing};
-ghost use Rattle.text.specs.Reader.{left, passed, HandsOut};
+ghost use Rattle.text.specs.Reader.{left, passed, unread, HandsOut, TellsNext};
 
 use crate::cut::first_line;
-use crate::line::Line;
+use crate::line::{Line, LineFault};
 use crate::lines::Lines;
 
 impl<'a> Lines<'a> {
@@ -11,10 +11,31 @@ impl<'a> Lines<'a> {
     pub fn of(text: &'a [u8]) -> Lines<'a>
         ensures left { left result ≡ standing 1 (lines_in text.now) }
         ensures passed { passed result ≡ 0 }
+        ensures unread { unread result ≡ text.now }
     {
         Lines {
             rest: text,
             passed: 0,
+        }
+    }
+
+    // The next line, or what it breaks of the rules of layer 1, if a line is left.
+    pub(crate) fn tell_next(&mut self) -> Option<Result<Line<'a>, LineFault>>
+        ensures { TellsNext self.old result self.new }
+    {
+        if self.rest.is_empty() {
+            return None;
+        }
+        let number = self.passed + 1;
+        match first_line(number, self.rest) {
+            Ok((line, rest)) => {
+                *self = Lines {
+                    rest,
+                    passed: number,
+                };
+                Some(Ok(line))
+            }
+            Err(fault) => Some(Err(fault)),
         }
     }
 
@@ -37,17 +58,6 @@ impl<'a> Iterator for Lines<'a> {
     ghost remaining = { item_count left };
 
     fn next(&mut self) -> Option<Line<'a>> {
-        if self.rest.is_empty() {
-            return None;
-        }
-        let number = self.passed + 1;
-        let Ok((line, rest)) = first_line(number, self.rest) else {
-            return None;
-        };
-        *self = Lines {
-            rest,
-            passed: number,
-        };
-        Some(line)
+        self.tell_next()?.ok()
     }
 }

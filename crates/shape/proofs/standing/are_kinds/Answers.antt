@@ -1,22 +1,10 @@
-use Rattle.std.proofs.Common.{◌+◌, ◌<◌, ◌&&◌, length, drop, pos, is_some, sym, ap, ◌∙◌, arith}
-use Rattle.std.proofs.lemmas.List.{at_drop_more, at_drop_all}
-use Rattle.text.specs.Values.{values}
-use Rattle.shape.specs.Parts.{all_kinds}
+use Rattle.std.proofs.Common.{is_some, rules}
+use Rattle.std.proofs.lemmas.Iterator.Consumers.{YieldsList-from_first}
+use Rattle.std.proofs.lemmas.Iterator.Search.{all_from_yields_List}
+use Rattle.text.specs.Numbers.{kind_of}
+use Rattle.text.specs.Values.{values, numbers_left}
+use Rattle.text.proofs.Numbers.{named_is}
 use Rattle.shape.proofs.standing.are_kinds.Goals as goal
 
-pub returns-then-is_none : goal.returns-then-is_none
-returns-then-is_none c =
-    let zs = values c.args.fields in
-    let j = c.loop-j.j in
-    let l : j < length zs = omega arith in
-    sym (sym c.loop-j.invariant ∙ at_drop_more all_kinds zs j (pos 0) l ∙ ap (λ t. t && all_kinds (drop (j + 1) zs)) (ap is_some (sym c.kind.ensures) ∙ c.if-is_none.ensures))
-
-pub loop-j-preserved : goal.loop-j-preserved
-loop-j-preserved c =
-    let zs = values c.args.fields in
-    let j = c.loop-j.j in
-    let l : j < length zs = omega arith in
-    sym (at_drop_more all_kinds zs j (pos 0) l ∙ ap (λ t. t && all_kinds (drop (j + 1) zs)) (ap is_some (sym c.kind.ensures) ∙ c.if-is_none.ensures)) ∙ c.loop-j.invariant
-
 pub returns : goal.returns
-returns c = let zs = values c.args.fields in sym (sym c.loop-j.invariant ∙ at_drop_all all_kinds zs c.loop-j.j (omega arith))
+returns c = all_from_yields_List (λ z. is_some (kind_of z)) c.all.new.self _ c.all.result c.all.ensures.ran (YieldsList-from_first (λ x. x) numbers_left (values c.args.fields) c.numbers.ensures) (λ x b q k. search (rules, named_is))

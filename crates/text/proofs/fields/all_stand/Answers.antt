@@ -1,15 +1,12 @@
-use Rattle.std.proofs.Common.{◌-◌, length, take, drop, is_some, sym, ap, ◌∙◌, arith, length-drop}
-use Rattle.std.proofs.lemmas.List.{take_rest}
-use Rattle.text.proofs.Numbers.{stand_more, stand_fails}
+use Rattle.std.proofs.Common.{◌/◌, ◌∙◌, List, ℕ, length, is_some, ap, rules}
+use Rattle.std.proofs.lemmas.Iterator.Search.{all_from_yields_List}
+use Rattle.text.specs.Field.{field_value}
+use Rattle.text.specs.Numbers.{fields_stand}
+use Rattle.text.proofs.Numbers.{stand_is, YieldsList-from_fields}
 use Rattle.text.proofs.fields.all_stand.Goals as goal
 
-pub returns-then-is_none : goal.returns-then-is_none
-returns-then-is_none c =
-    let xs = c.loop-rest.rest.now in
-    sym (sym c.loop-rest.invariant.1 ∙ stand_fails xs c.loop-rest-test.true (ap is_some (sym c.field.ensures) ∙ c.if-is_none.ensures))
-
-pub loop-rest-preserved : goal.loop-rest-preserved
-loop-rest-preserved c =
-    let xs = c.loop-rest.rest.now in
-    let is = take_rest xs 6 in
-    (omega (arith, ap length is, length-drop 6 xs), sym (stand_more xs (take (length xs - 6) (drop 6 xs)) is c.loop-rest-test.true (ap is_some (sym c.field.ensures) ∙ c.if-is_none.ensures)) ∙ c.loop-rest.invariant.1)
+pub returns : goal.returns
+returns c =
+    let chunks = c.chunks_exact.result in
+    let r = all_from_yields_List (λ bs. is_some (field_value bs)) c.all.new.self _ c.all.result c.all.ensures.ran (YieldsList-from_fields chunks c.chunks_exact.ensures.size) (λ x b q k. search rules) in
+    r ∙ stand_is (length chunks.rest.now / 6) chunks.rest.now ∙ ap (λ (bs : List ℕ). fields_stand (length bs / 6) bs) c.chunks_exact.ensures.rest

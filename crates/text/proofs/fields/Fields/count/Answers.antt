@@ -1,6 +1,5 @@
-use Rattle.std.proofs.Common.{◌∙◌}
 use Rattle.text.proofs.Numbers.{count_is}
 use Rattle.text.proofs.fields.Fields.count.Goals as goal
 
 pub returns : goal.returns
-returns c = c.fields_in.ensures ∙ count_is c.args.self.columns.now
+returns c = count_is c.args.self.columns.now
