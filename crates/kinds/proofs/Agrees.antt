@@ -1,8 +1,8 @@
 -- What chains over the fields of a line answer, against the kinds' rules.
-use Rattle.std.proofs.Common.{◌≡◌, ℕ, zero, suc, ◌+◌, ◌<◌, ◌≤◌, Bool, true, false, ◌&&◌, List, [], ◌∷◌, map, length, get_or, drop, ℤ, pos, Some, None, sym, refl, ap, ◌∙◌, subst, ⊎_elim, arith}
+use Rattle.std.proofs.Common.{◌≡◌, ℕ, zero, suc, ◌+◌, ◌<◌, ◌≤◌, false, ◌&&◌, List, [], ◌∷◌, map, length, get_or, drop, ℤ, pos, Some, None, sym, refl, ap, ◌∙◌, ⊎_elim, arith}
 use Rattle.std.proofs.lemmas.Bool.{cases_lt, and_left, and_right}
 use Rattle.std.proofs.lemmas.List.{at_drop_more, at_drop_all, get_or_past}
-use Rattle.std.specs.List.{list_all, range_with_len, enumerate_from, slice_get}
+use Rattle.std.specs.List.{list_all, enumerate_from, zip, slice_get}
 use Rattle.std.specs.Option.{unwrap_or}
 use Rattle.text.specs.declared.fields.Fields.{Fields}
 use Rattle.text.specs.declared.fields.Kind.{Kind}
@@ -13,22 +13,16 @@ use Rattle.text.specs.Values.{values}
 use Rattle.kinds.specs.Named.{names, there, all_there}
 use Rattle.kinds.specs.Kinds.{same_kind, kind_in, starts, takes}
 
--- `all` over the indices from a to n, against a rule that goes on from each of them
-over_range : (test rule : ℕ → Bool) (n a k : ℕ) → a + k ≡ n → ((j : ℕ) → j < n → rule j ≡ (test j && rule (j + 1))) → rule n ≡ true → list_all test (range_with_len a k) ≡ rule a
-over_range test rule n a zero e step end = let q : n ≡ a = omega arith in sym (subst (λ i. rule i ≡ true) q end)
-over_range test rule n a (suc k) e step end = ap (λ t. test a && t) (over_range test rule n (a + 1) k (omega arith) step end) ∙ sym (step a (omega arith))
+-- the numbers with their indices from j on
+pub there_over : (rs fs : ℕ) (w : Word) (j : ℕ) (zs : List ℤ) → list_all (λ p. there rs fs (names w p.0) (whole_of p.1)) (enumerate_from j zs) ≡ all_there rs fs w j zs
+there_over rs fs w j [] = refl
+there_over rs fs w j (z ∷ zs) = ap (λ b. there rs fs (names w j) (whole_of z) && b) (there_over rs fs w (j + 1) zs)
 
-pub there_over : (rs fs : ℕ) (w : Word) (zs : List ℤ) → list_all (λ j. there rs fs (names w j) (whole_of (get_or zs j (pos 0)))) (range_with_len 0 (length zs)) ≡ all_there rs fs w 0 zs
-there_over rs fs w zs =
-    over_range _ (λ j. all_there rs fs w j (drop j zs)) (length zs) 0 (length zs) (omega arith)
-    (λ j l. at_drop_more (all_there rs fs w j) zs j (pos 0) l)
-    (at_drop_all (all_there rs fs w (length zs)) zs (length zs) (omega arith))
-
-pub takes_over : (ks : List Kind) (zs ps : List ℤ) → length zs ≡ length ps → list_all (λ j. same_kind (kind_in ks (whole_of (get_or zs j (pos 0)))) (kind_of (get_or ps j (pos 0)))) (range_with_len 0 (length zs)) ≡ takes ks zs ps
-takes_over ks zs ps e =
-    over_range _ (λ j. takes ks (drop j zs) (drop j ps)) (length zs) 0 (length zs) (omega arith)
-    (λ j l. at_drop_more (λ xs. takes ks xs (drop j ps)) zs j (pos 0) l ∙ at_drop_more (takes ks (get_or zs j (pos 0) ∷ drop (j + 1) zs)) ps j (pos 0) (omega arith))
-    (at_drop_all (λ xs. takes ks xs (drop (length zs) ps)) zs (length zs) (omega arith) ∙ at_drop_all (takes ks []) ps (length zs) (omega arith))
+pub takes_over : (ks : List Kind) (zs ps : List ℤ) → length zs ≡ length ps → list_all (λ p. same_kind (kind_in ks (whole_of p.0)) (kind_of p.1)) (zip zs ps) ≡ takes ks zs ps
+takes_over ks [] [] e = refl
+takes_over ks [] (p ∷ ps) e = absurd (omega arith)
+takes_over ks (z ∷ zs) [] e = absurd (omega arith)
+takes_over ks (z ∷ zs) (p ∷ ps) e = ap (λ b. same_kind (kind_in ks (whole_of z)) (kind_of p) && b) (takes_over ks zs ps (omega arith))
 
 pub takes_uneven : (ks : List Kind) (zs ps : List ℤ) → (length zs ≡ length ps → ⊥) → takes ks zs ps ≡ false
 takes_uneven ks [] [] h = absurd (h refl)

@@ -16,7 +16,8 @@ pub fn kind_or_number(kind: Option<Kind>) -> Kind
 pub fn kinds_of(heap: Global, fields: Fields<'_>) -> Result<Vec<Kind>, AllocError>
     ensures { IfOk result (λ v. v.items ≡ kinds_in (values fields.entry)) }
 {
-    (0..fields.count())
-        .map(|j| kind_or_number(fields.kind(j)))
+    fields
+        .numbers()
+        .map(|number| kind_or_number(Kind::try_from(number).ok()))
         .collect(heap)
 }

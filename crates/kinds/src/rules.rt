@@ -95,7 +95,10 @@ impl<'a> Scope<'a> {
     fn has_all(&self, word: Word, fields: Fields<'_>) -> bool
         ensures { result ≡ all_there (vec_len self.now.kinds) (vec_len self.now.heads) word 0 (values fields.entry) }
     {
-        (0..fields.count()).all(|j| self.has(names_of(word, j), fields.index(j)))
+        fields.numbers().enumerate().all(|(j, number)| self.has(
+            names_of(word, j),
+            usize::try_from(number).ok(),
+        ))
     }
 
     fn has(&self, names: Names, v: Option<usize>) -> bool
@@ -168,7 +171,12 @@ impl<'a> Scope<'a> {
         ensures { result ≡ takes self.now.kinds.items (values args.entry) (values params.entry) }
     {
         args.count() == params.count()
-            && (0..args.count()).all(|j| same(self.kind_of(args.index(j)), params.kind(j)))
+            && args.numbers().zip(params.numbers()).all(|(arg, param)| {
+                same(
+                    self.kind_of(usize::try_from(arg).ok()),
+                    Kind::try_from(param).ok(),
+                )
+            })
     }
 
     // Whether function v takes values of the kinds `lead`, then the arguments.
