@@ -1,5 +1,5 @@
 -- A text without a fault: its lines are formed and fit their columns.
-use Rattle.std.proofs.Common.{◌≡◌, ℕ, Bool, true, false, cond, eqb, List, [], ◌∷◌, map, get_or, ℤ, pos, None, sym, refl, ap, ◌∙◌, subst, arith}
+use Rattle.std.proofs.Common.{◌≡◌, ℕ, Bool, true, false, cond, eqb, List, [], ◌∷◌, map, get_or, ℤ, pos, None, sym, refl, ap, ◌∙◌, subst}
 use Rattle.std.specs.List.{flat_map}
 use Rattle.text.specs.First.{none_left}
 use Rattle.text.specs.Lines.{Said, Raw, lines_in, longer, reading, lines_of, text_fault, standing}

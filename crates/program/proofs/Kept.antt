@@ -1,5 +1,5 @@
 -- A program keeps the rules of texts.
-use Rattle.std.proofs.Common.{◌≡◌, ℕ, Bool, true, ◌&&◌, List, Some, None, Option, refl, ap, ◌∙◌, arith}
+use Rattle.std.proofs.Common.{◌≡◌, ℕ, Bool, true, ◌&&◌, List, Some, None, Option, refl, ap, ◌∙◌}
 use Rattle.text.specs.First.{no_fault}
 use Rattle.text.specs.Lines.{Said}
 use Rattle.text.specs.Rendering.{all_fit}

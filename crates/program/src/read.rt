@@ -7,7 +7,7 @@ ghost use Rattle.text.specs.Reader.{left};
 ghost use Rattle.text.specs.Values.{values};
 ghost use Rattle.shape.specs.declared.standing.Part.TheVariants.{Command as OfCommand, Tail as OfTail};
 ghost use Rattle.shape.specs.declared.standing.Due.TheVariants.{Head as DueHead, Body as DueBody};
-ghost use Rattle.shape.specs.Parts.{part_of, is_tail};
+ghost use Rattle.shape.specs.Parts.{part_of};
 ghost use Rattle.kinds.specs.Kinds.{fault_of};
 ghost use Rattle.program.specs.Programs.{op_word, command_line, tail_line, function_lines};
 ghost use Rattle.program.specs.Formed.{entry_of, entries, Held, Formed, Gives};
@@ -33,7 +33,10 @@ fn entry(fields: Fields<'_>, j: usize) -> usize
 fn entries_of(heap: Global, fields: Fields<'_>) -> Result<Vec<usize>, AllocError>
     ensures { IfOk result (λ v. v.items ≡ entries (values fields.entry)) }
 {
-    (0..fields.count()).map(|j| entry(fields, j)).collect(heap)
+    fields
+        .numbers()
+        .map(|number| usize::try_from(number).unwrap_or(0))
+        .collect(heap)
 }
 
 fn read_apply(op: Op, fields: Fields<'_>) -> Command
@@ -153,6 +156,7 @@ fn read_functions(heap: Global, mut lines: Lines<'_>) -> Result<Vec<Function>, A
     ensures { IfOk result (λ fs. flat_map function_lines fs.items ≡ left lines.entry) }
 {
     let mut functions = Vec::new(heap);
+    // Each turn reads on to the end of a function, so that no `for` can hold the reader.
     while let Some(line) = lines.next() {
         let head = line.parts().fields;
         functions.push(read_function(heap, head, &mut lines)?)?;
@@ -164,10 +168,9 @@ fn read_functions(heap: Global, mut lines: Lines<'_>) -> Result<Vec<Function>, A
 fn next_fields<'a>(lines: &mut Lines<'a>) -> Fields<'a>
     ensures { Gives (left lines.old) (values result) (left lines.new) }
 {
-    let Some(line) = lines.next() else {
-        return Fields::none();
-    };
-    line.parts().fields
+    lines
+        .next()
+        .map_or(Fields::none(), |line| line.parts().fields)
 }
 
 // The program that a text without a fault says.

@@ -1,6 +1,4 @@
-ghost use Rattle.std.specs.Prelude.{◌≡◌, ◌+◌, ◌≤◌, IfOk, vec_len};
-ghost use Rattle.text.specs.declared.fields.Kind.TheVariants.{ModNumber};
-ghost use Rattle.program.specs.declared.function.Tail.TheVariants.{Put};
+ghost use Rattle.std.specs.Prelude.{◌≡◌, ◌≤◌, IfOk};
 ghost use Rattle.program.specs.Says.{program_lines};
 ghost use Rattle.program.specs.Programs.{function_lines};
 ghost use Rattle.program.specs.View.{viewed};
@@ -24,12 +22,6 @@ fn writes_zero(heap: Global) -> Result<Function, AllocError>
     })
 }
 
-fn steps_of(function: &Function) -> usize
-    ensures { result ≡ vec_len function.now.commands + 1 }
-{
-    function.commands.len() + 1
-}
-
 impl Program {
     // What a new place holds: one number input, nothing given, and a function that writes 0.
     pub fn smallest(heap: Global) -> Result<Program, AllocError>
@@ -49,6 +41,9 @@ impl Program {
         ensures value { result ≡ steps_in (viewed self.now).functions }
         ensures bound { result ≤ 512 }
     {
-        self.functions.iter().map(steps_of).sum()
+        self.functions
+            .iter()
+            .map(|function| function.commands.len() + 1)
+            .sum()
     }
 }
