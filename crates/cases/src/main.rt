@@ -1,13 +1,9 @@
 // Answers the stored journal on standard input; what it writes is held to the reference program's answers.
 #![tactic(auto)]
 
-use journal::answer::answer;
-use std::io::{Read, Write};
+use journal::serve::serve;
 
 fn main(rt: HostRuntime) -> anyhow::Result<()> {
-    let mut input = Vec::new(rt.alloc());
-    rt.stdin().read_to_end(&mut input)?;
-    let answers = answer(rt.alloc(), input.as_slice())?;
-    rt.stdout().write_all(answers.as_slice())?;
+    serve(rt.alloc(), &mut rt.stdin(), &mut rt.stdout())?;
     Ok(())
 }

@@ -1,5 +1,5 @@
 -- A journal is cut at its bytes 10.
-use Rattle.std.proofs.Common.{◌≡◌, ℕ, zero, suc, ◌+◌, ◌-◌, ◌<◌, ◌≤◌, Bool, true, false, cond, List, [], ◌∷◌, ◌++◌, length, take, drop, Some, None, Decides, sym, refl, ap, ◌∙◌, subst, ⊎_elim, arith, length-append, length-drop, rules}
+use Rattle.std.proofs.Common.{◌≡◌, ℕ, zero, suc, ◌+◌, ◌-◌, ◌<◌, ◌≤◌, Bool, true, false, cond, List, [], ◌∷◌, ◌++◌, length, take, drop, Some, None, Decides, codes, sym, refl, ap, ◌∙◌, subst, ⊎_elim, arith, length-append, length-drop, rules}
 use Rattle.std.proofs.lemmas.Slice.Eq.{bytes_eq-Decides}
 use Rattle.std.proofs.lemmas.List.{append-nil, append_assoc, take_rest, take_at}
 use Rattle.std.proofs.lemmas.Bool.Decides.{eqb_tells}
@@ -11,7 +11,7 @@ use Rattle.journal.specs.Cut.{Cut}
 
 -- the bytes before the first byte 10, it, and those behind
 split_at : (k j : ℕ) (bs : List ℕ) → line_end k bs ≡ Some j → (i : ℕ) → j ≡ k + i → bs ≡ take i bs ++ 10 ∷ drop (suc i) bs
-split_at k j [] e i q = absurd (let z : ◌≡◌ {A = ℕ} 0 1 = cc in omega arith)
+split_at k j [] e i q = absurd (cc)
 split_at k j (b ∷ bs) e zero q =
     ⊎_elim
     (λ h. ap (λ x. x ∷ bs) h.1)
@@ -41,13 +41,12 @@ pub cut_all : (bs : List ℕ) → 0 < length bs → line_end 0 bs ≡ None → C
 cut_all [] l e = absurd (omega arith)
 cut_all (b ∷ bs) l e = record { ended = false; lines = uncut 0 b bs e; bytes = sym (append-nil (b ∷ bs)); shorter = l }
 
-pub cut_parts : (j : ℕ) (bs : List ℕ) → line_end 0 bs ≡ Some j → Cut bs (take (j - 0) bs) (take (length bs - (j + 1)) (drop (j + 1) bs))
-cut_parts j bs e =
-    let same : j ≡ j - 0 = omega arith in
-    subst (λ k. Cut bs (take k bs) (take (length bs - (j + 1)) (drop (j + 1) bs))) same (subst (Cut bs (take j bs)) (sym (take_rest bs (j + 1))) (cut_here j bs e))
+pub cut_parts : (j : ℕ) (bs : List ℕ) → line_end 0 bs ≡ Some j → Cut bs (take j bs) (take (length bs - (j + 1)) (drop (j + 1) bs))
+cut_parts j bs e = subst (Cut bs (take j bs)) (sym (take_rest bs (j + 1))) (cut_here j bs e)
 
-pub tested : (xs ys : List ℕ) (r : Bool) → Decides r (xs ≡ ys) → r ≡ bytes_eq xs ys
-tested xs ys r h = search (rules, bytes_eq-Decides)
+-- whether a line is just a dot, as the code tests it
+pub ends_line : (line dot : List ℕ) (r b : Bool) → dot ≡ codes "." → Decides r (line ≡ dot) → r ≡ b → ends_text line ≡ b
+ends_line line dot r b e h q = sym (let t : r ≡ bytes_eq line dot = search (rules, bytes_eq-Decides) in t ∙ ap (bytes_eq line) e) ∙ q
 
 -- how far a text has been cut off: what stands before the rest belongs to it
 pub record Past (bs rest : List ℕ) : Type 0 where
@@ -70,10 +69,10 @@ module _ (bs rest line after : List ℕ) (b : Past bs rest) (c : Cut rest line a
         behind = b.behind ∙ ap behind_text c.lines ∙ ap (λ t. cond t (lines_in after) (behind_text (lines_in after))) f;
       }
 
-  pub text_ends : ends_text line ≡ true → (take (length bs - length rest - 0) bs ≡ text_of (lines_in bs)) × (lines_in after ≡ behind_text (lines_in bs)) × (length after ≤ length bs)
+  pub text_ends : ends_text line ≡ true → (take (length bs - length rest) bs ≡ text_of (lines_in bs)) × (lines_in after ≡ behind_text (lines_in bs)) × (length after ≤ length bs)
   text_ends t =
       let l : length bs ≡ length b.front + length rest = ap length b.whole ∙ length-append b.front rest in
-      let n : length bs - length rest - 0 ≡ length b.front = omega arith in
+      let n : length bs - length rest ≡ length b.front = omega arith in
       let e : text_of (lines_in bs) ≡ b.front = b.text ∙ ap (λ ls. b.front ++ text_of ls) c.lines ∙ ap (λ u. b.front ++ cond u [] (line ++ (newline c.ended ++ text_of (lines_in after)))) t ∙ append-nil b.front in (
         ap (λ k. take k bs) n ∙ ap (take (length b.front)) b.whole ∙ take_at b.front rest _ refl ∙ sym e,
         sym (b.behind ∙ ap behind_text c.lines ∙ ap (λ u. cond u (lines_in after) (behind_text (lines_in after))) t),

@@ -1,5 +1,6 @@
 -- What a journal is answered.
-use Rattle.std.specs.Prelude.{◌≡◌, ℕ, ◌<◌, Bool, List, [], ◌∷◌, ◌++◌, length, codes}
+use Rattle.std.specs.Prelude.{◌≡◌, ℕ, ◌<◌, Bool, List, [], ◌∷◌, ◌++◌, length, codes, IfSome, Option}
+use Rattle.std.specs.Io.KnownBytes.{Appends}
 use Rattle.text.specs.Lines.{Raw, lines_in}
 use Rattle.journal.specs.declared.call.Call.TheVariants.{Passed, Text, Unknown}
 use Rattle.journal.specs.Journal.{call_in, text_of, behind_text}
@@ -21,3 +22,7 @@ pub record GoesOn (journal before rest after : List ℕ) : Type 0 where
   pub said : List ℕ
   pub added : after ≡ before ++ said
   pub goes : (out : List ℕ) → Answered rest out → Answered journal (said ++ out)
+
+-- the journal that was still to be read is answered, and the answer is added to what was written
+abbrev pub Served : Option (List ℕ) → Option (List ℕ) → Option (List ℕ) → Type 0
+Served read before after = IfSome read (λ journal. (out : List ℕ) × Answered journal out × Appends before after out)

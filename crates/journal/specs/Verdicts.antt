@@ -1,9 +1,7 @@
 -- What is answered to a text.
-use Rattle.std.specs.Prelude.{◌≡◌, ℕ, List, ◌++◌, length, codes, decimal}
+use Rattle.std.specs.Prelude.{ℕ, List, ◌++◌, length, codes, decimal}
 use Rattle.kinds.specs.declared.fault.KindFault.{KindFault}
-use Rattle.kinds.specs.declared.fault.Refusal.{Refusal}
-use Rattle.kinds.specs.declared.fault.Refusal.TheVariants.{Fault, Memory}
-use Rattle.kinds.specs.Faults.{number_of, layer_of, line_at}
+use Rattle.kinds.specs.Faults.{words_of}
 use Rattle.kinds.specs.Laws.{Faultless, Least}
 use Rattle.program.specs.declared.program.Program.{Program}
 use Rattle.program.specs.Checks.{Says}
@@ -14,12 +12,7 @@ abbrev pub accepted_words : ℕ → ℕ → List ℕ
 accepted_words fs ss = codes "text: accepted " ++ (decimal fs ++ (codes " functions " ++ (decimal ss ++ codes " steps\n")))
 
 abbrev pub fault_words : KindFault → List ℕ
-fault_words f = codes "text: fault " ++ (decimal (number_of f) ++ (codes " line " ++ (decimal (line_at f) ++ (codes " layer " ++ (decimal (layer_of f) ++ codes "\n")))))
-
--- the words tell this fault
-abbrev pub TellsFault : Refusal → List ℕ → Type 0
-TellsFault (Fault f) out = out ≡ fault_words f
-TellsFault Memory out = ⊥
+fault_words f = codes "text: " ++ (words_of f ++ codes "\n")
 
 -- a text without a fault is accepted, with the functions and steps of the program that it says; of any other its least
 -- fault is told

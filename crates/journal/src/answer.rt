@@ -2,7 +2,7 @@ ghost use Rattle.std.specs.Prelude.{◌≡◌, ℕ, ◌<◌, ◌≤◌, List, �
 ghost use Rattle.text.specs.Lines.{lines_in};
 ghost use Rattle.journal.specs.Answers.{Answered, GoesOn};
 
-use crate::call::{Call, call_of};
+use crate::call::Call;
 use crate::cut::{cut_line, cut_text};
 use crate::verdict::verdict;
 use program::program::Program;
@@ -19,7 +19,7 @@ fn answer_call<'a>(
     ensures { IfOk result (λ rest. GoesOn journal.now out.old.items rest.now out.new.items) }
 {
     let (line, behind) = cut_line(journal);
-    match call_of(line) {
+    match Call::from(line) {
         Call::Passed => Ok(behind),
         Call::Text => {
             let (text, rest) = cut_text(behind);
@@ -42,7 +42,7 @@ pub fn answer(heap: Global, journal: &[u8]) -> Result<Vec<u8>, AllocError>
     let mut place = Program::smallest(heap)?;
     let mut out = Vec::new(heap);
     let mut rest = journal;
-    while rest.len() > 0 {
+    while !rest.is_empty() {
         rest = answer_call(heap, rest, &mut place, &mut out)?;
     }
     Ok(out)

@@ -1,8 +1,6 @@
 ghost use Rattle.std.specs.Prelude.{◌≡◌};
 ghost use Rattle.journal.specs.Journal.{call_in};
 
-use crate::cut::spells;
-
 // What a line of a journal asks for.
 #[derive(Clone, Copy, PartialEq, Eq, Debug)]
 pub enum Call {
@@ -14,16 +12,14 @@ pub enum Call {
     Unknown,
 }
 
-pub(crate) fn call_of(line: &[u8]) -> Call
-    ensures { result ≡ call_in line.now }
-{
-    match line {
-        [] => Call::Passed,
-        [b'#', ..] => Call::Passed,
-        _ => if spells(line, b"text") {
-            Call::Text
-        } else {
-            Call::Unknown
-        },
+impl From<&[u8]> for Call {
+    ghost from_gives = { λ line call. call ≡ call_in line.now };
+
+    fn from(line: &[u8]) -> Call {
+        match line {
+            [] | [b'#', ..] => Call::Passed,
+            b"text" => Call::Text,
+            _ => Call::Unknown,
+        }
     }
 }

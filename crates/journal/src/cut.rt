@@ -1,17 +1,9 @@
 ghost use Rattle.std.specs.Prelude.{◌≡◌, ◌<◌, ◌≤◌, length};
-ghost use Rattle.std.specs.Str.{bytes_eq};
 ghost use Rattle.text.specs.Lines.{lines_in};
 ghost use Rattle.journal.specs.Journal.{text_of, behind_text};
 ghost use Rattle.journal.specs.Cut.{Cut};
 
 use text::cut::line_end_of;
-
-// Whether a line is just this word.
-pub(crate) fn spells(line: &[u8], word: &[u8]) -> bool
-    ensures { result ≡ bytes_eq line.now word.now }
-{
-    line == word
-}
 
 // The first line, without its byte 10, and what stands behind it.
 pub(crate) fn cut_line(journal: &[u8]) -> (&[u8], &[u8])
@@ -21,7 +13,7 @@ pub(crate) fn cut_line(journal: &[u8]) -> (&[u8], &[u8])
     let Some(end) = line_end_of(journal) else {
         return (journal, &[]);
     };
-    (&journal[0..end], &journal[end + 1..])
+    (&journal[..end], &journal[end + 1..])
 }
 
 // The text that begins here, up to a line that is just a dot, and what stands behind that line.
@@ -31,11 +23,11 @@ pub(crate) fn cut_text(journal: &[u8]) -> (&[u8], &[u8])
     ensures shorter { length result.1.now ≤ length journal.now }
 {
     let mut rest = journal;
-    while rest.len() > 0 {
+    while !rest.is_empty() {
         let (line, behind) = cut_line(rest);
-        if spells(line, b".") {
+        if line == b".".as_slice() {
             let end = journal.len() - rest.len();
-            return (&journal[0..end], behind);
+            return (&journal[..end], behind);
         }
         rest = behind;
     }

@@ -4,4 +4,5 @@
 pub mod answer;
 pub mod call;
 pub mod cut;
+pub mod serve;
 pub mod verdict;

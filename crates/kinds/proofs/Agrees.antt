@@ -1,43 +1,52 @@
--- Steps of the kinds' rules, field by field.
-use Rattle.std.proofs.Common.{◌≡◌, ℕ, suc, ◌+◌, ◌<◌, ◌≤◌, Bool, true, false, cond, ◌&&◌, List, [], ◌∷◌, length, get_or, drop, ℤ, pos, Some, None, sym, refl, ap, ◌∙◌}
-use Rattle.std.proofs.lemmas.List.{at_drop_more, at_drop_all}
-use Rattle.text.specs.declared.line.Word.{Word}
-use Rattle.kinds.specs.declared.fault.KindFault.TheVariants as e
+-- What chains over the fields of a line answer, against the kinds' rules.
+use Rattle.std.proofs.Common.{◌≡◌, ℕ, zero, suc, ◌+◌, ◌<◌, ◌≤◌, false, ◌&&◌, List, [], ◌∷◌, map, length, get_or, drop, ℤ, pos, Some, None, sym, refl, ap, ◌∙◌, ⊎_elim, arith}
+use Rattle.std.proofs.lemmas.Bool.{cases_lt, and_left, and_right}
+use Rattle.std.proofs.lemmas.List.{at_drop_more, at_drop_all, get_or_past}
+use Rattle.std.specs.List.{list_all, enumerate_from, zip, slice_get}
+use Rattle.std.specs.Option.{unwrap_or}
+use Rattle.text.specs.declared.fields.Fields.{Fields}
 use Rattle.text.specs.declared.fields.Kind.{Kind}
 use Rattle.text.specs.declared.fields.Kind.TheVariants as k
+use Rattle.text.specs.declared.line.Word.{Word}
 use Rattle.text.specs.Numbers.{whole_of, kind_of}
+use Rattle.text.specs.Values.{values}
 use Rattle.kinds.specs.Named.{names, there, all_there}
-use Rattle.kinds.specs.Kinds.{agrees, kind_rules, same_kind, kind_in, starts, takes}
+use Rattle.kinds.specs.Kinds.{same_kind, kind_in, starts, takes}
 
-module _ (rs fs : ℕ) (w : Word) (j : ℕ) (zs : List ℤ) (l : j < length zs) where
-  pub there_at : (b : Bool) → b ≡ there rs fs (names w j) (whole_of (get_or zs j (pos 0))) → all_there rs fs w j (drop j zs) ≡ (b && all_there rs fs w (j + 1) (drop (j + 1) zs))
-  there_at b e = at_drop_more (all_there rs fs w j) zs j (pos 0) l ∙ ap (λ t. t && all_there rs fs w (j + 1) (drop (j + 1) zs)) (sym e)
+-- the numbers with their indices from j on
+pub there_over : (rs fs : ℕ) (w : Word) (j : ℕ) (zs : List ℤ) → list_all (λ p. there rs fs (names w p.0) (whole_of p.1)) (enumerate_from j zs) ≡ all_there rs fs w j zs
+there_over rs fs w j [] = refl
+there_over rs fs w j (z ∷ zs) = ap (λ b. there rs fs (names w j) (whole_of z) && b) (there_over rs fs w (j + 1) zs)
 
-module _ (lead : List Kind) (zs : List ℤ) (j : ℕ) (l : j < length lead) where
-  pub starts_at : j < length zs → (b : Bool) → b ≡ same_kind (Some (get_or lead j k.Number)) (kind_of (get_or zs j (pos 0))) → starts (drop j lead) (drop j zs) ≡ (b && starts (drop (j + 1) lead) (drop (j + 1) zs))
-  starts_at m b e = at_drop_more (λ ls. starts ls (drop j zs)) lead j k.Number l ∙ at_drop_more (starts (get_or lead j k.Number ∷ drop (j + 1) lead)) zs j (pos 0) m ∙ ap (λ t. t && starts (drop (j + 1) lead) (drop (j + 1) zs)) (sym e)
-
-  pub starts_short : length zs ≤ j → starts (drop j lead) (drop j zs) ≡ false
-  starts_short m = at_drop_more (λ ls. starts ls (drop j zs)) lead j k.Number l ∙ at_drop_all (starts (get_or lead j k.Number ∷ drop (j + 1) lead)) zs j m
-
-module _ (ks : List Kind) (zs ps : List ℤ) (j : ℕ) (l : j < length zs) (m : j < length ps) where
-  pub takes_at : (b : Bool) → b ≡ same_kind (kind_in ks (whole_of (get_or zs j (pos 0)))) (kind_of (get_or ps j (pos 0))) → takes ks (drop j zs) (drop j ps) ≡ (b && takes ks (drop (j + 1) zs) (drop (j + 1) ps))
-  takes_at b e = at_drop_more (λ xs. takes ks xs (drop j ps)) zs j (pos 0) l ∙ at_drop_more (takes ks (get_or zs j (pos 0) ∷ drop (j + 1) zs)) ps j (pos 0) m ∙ ap (λ t. t && takes ks (drop (j + 1) zs) (drop (j + 1) ps)) (sym e)
-
-pub takes_all : (ks : List Kind) (zs ps : List ℤ) (j : ℕ) → length zs ≤ j → length ps ≤ j → takes ks (drop j zs) (drop j ps) ≡ true
-takes_all ks zs ps j l m = at_drop_all (λ xs. takes ks xs (drop j ps)) zs j l ∙ at_drop_all (takes ks []) ps j m
-
-either_false : (b : Bool) → (b && false) ≡ false
-either_false true = refl
-either_false false = refl
+pub takes_over : (ks : List Kind) (zs ps : List ℤ) → length zs ≡ length ps → list_all (λ p. same_kind (kind_in ks (whole_of p.0)) (kind_of p.1)) (zip zs ps) ≡ takes ks zs ps
+takes_over ks [] [] e = refl
+takes_over ks [] (p ∷ ps) e = absurd (omega arith)
+takes_over ks (z ∷ zs) [] e = absurd (omega arith)
+takes_over ks (z ∷ zs) (p ∷ ps) e = ap (λ b. same_kind (kind_in ks (whole_of z)) (kind_of p) && b) (takes_over ks zs ps (omega arith))
 
 pub takes_uneven : (ks : List Kind) (zs ps : List ℤ) → (length zs ≡ length ps → ⊥) → takes ks zs ps ≡ false
 takes_uneven ks [] [] h = absurd (h refl)
 takes_uneven ks [] (p ∷ ps) h = refl
 takes_uneven ks (z ∷ zs) [] h = refl
-takes_uneven ks (z ∷ zs) (p ∷ ps) h =
-    ap (λ x. same_kind (kind_in ks (whole_of z)) (kind_of p) && x) (takes_uneven ks zs ps (λ e. h (ap suc e))) ∙ either_false (same_kind (kind_in ks (whole_of z)) (kind_of p))
+takes_uneven ks (z ∷ zs) (p ∷ ps) h = and_right _ _ (takes_uneven ks zs ps (λ e. h (ap suc e)))
 
-pub rules_at : (hs : List (List ℤ)) (ks : List Kind) (r : Kind) (n : ℕ) (w : Word) (zs : List ℤ) (last : Bool) (rs fs : ℕ) → rs ≡ length ks → fs ≡ length hs → (b : Bool) → b ≡ all_there rs fs w 0 zs → (d : Bool) → d ≡ agrees hs ks r w zs → cond b (cond d None (Some (e.Kinds n))) (Some (e.Missing n)) ≡ kind_rules hs (ks, r) n (w, zs) last
-rules_at hs ks r n w zs last rs fs p q b x d y =
-    ap (λ t. cond t (cond d None (Some (e.Kinds n))) (Some (e.Missing n))) (x ∙ ap (λ m. all_there m fs w 0 zs) p ∙ ap (λ m. all_there (length ks) m w 0 zs) q) ∙ ap (λ t. cond (all_there (length ks) (length hs) w 0 zs) (cond t None (Some (e.Kinds n))) (Some (e.Missing n))) y
+no_kind : (k : Kind) → same_kind (Some k) None ≡ false
+no_kind k.Number = refl
+no_kind k.ModNumber = refl
+no_kind k.ModList = refl
+
+-- kinds, with their indices from j on, against the parameters from j on
+pub starts_over : (lead : List Kind) (j : ℕ) (zs : List ℤ) → list_all (λ p. same_kind (Some p.1) (kind_of (get_or zs p.0 (pos 0)))) (enumerate_from j lead) ≡ starts lead (drop j zs)
+starts_over [] j zs = refl
+starts_over (k ∷ lead) j zs = ⊎_elim (within (starts_over lead (j + 1) zs)) past (cases_lt j (length zs))
+  where
+    within : list_all (λ p. same_kind (Some p.1) (kind_of (get_or zs p.0 (pos 0)))) (enumerate_from (j + 1) lead) ≡ starts lead (drop (j + 1) zs) → j < length zs → (same_kind (Some k) (kind_of (get_or zs j (pos 0))) && list_all (λ p. same_kind (Some p.1) (kind_of (get_or zs p.0 (pos 0)))) (enumerate_from (j + 1) lead)) ≡ starts (k ∷ lead) (drop j zs)
+    within e l = ap (λ b. same_kind (Some k) (kind_of (get_or zs j (pos 0))) && b) e ∙ sym (at_drop_more (starts (k ∷ lead)) zs j (pos 0) l)
+
+    past : length zs ≤ j → (same_kind (Some k) (kind_of (get_or zs j (pos 0))) && list_all (λ p. same_kind (Some p.1) (kind_of (get_or zs p.0 (pos 0)))) (enumerate_from (j + 1) lead)) ≡ starts (k ∷ lead) (drop j zs)
+    past l = and_left _ _ (ap (λ z. same_kind (Some k) (kind_of z)) (get_or_past zs j (pos 0) l) ∙ no_kind k) ∙ sym (at_drop_all (starts (k ∷ lead)) zs j l)
+
+pub head_found : (hs : List Fields) (i : ℕ) (none : Fields) → values none ≡ [] → values (unwrap_or (slice_get hs i) none) ≡ get_or (map values hs) i []
+head_found [] i none e = e
+head_found (h ∷ hs) zero none e = refl
+head_found (h ∷ hs) (suc i) none e = head_found hs i none e

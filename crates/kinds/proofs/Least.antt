@@ -18,7 +18,7 @@ module _ {S X F : Type 0} (next : S → X → S) (rules : S → ℕ → X → Bo
     pub least : (j q : ℕ) → Breaks next keeps s n xs j q → (at < j) ⊎ ((at ≡ j) × (rule ≤ q))
 
   differ : true ≡ false → ⊥
-  differ p = let z : ◌≡◌ {A = ℕ} 0 1 = cc in omega arith
+  differ p = cc
 
   -- a rule broken at once, or behind the first line
   split_at : {A : Type 0} (s : S) (n : ℕ) (x : X) (xs : List X) (j q : ℕ) (before : List X) (line : X) (behind : List X) → x ∷ xs ≡ before ++ line ∷ behind → j ≡ n + length before → keeps q (fold next s before) line (none_left behind) ≡ false → ((j ≡ n) × (keeps q s x (none_left xs) ≡ false) → A) → ((n < j) × Breaks next keeps (next s x) (n + 1) xs j q → A) → A
@@ -87,15 +87,15 @@ module _ {S X F : Type 0} (next : S → X → S) (rules : S → ℕ → X → Bo
       }
 
   pub told : (s : S) (n : ℕ) (xs : List X) (f : F) → first next rules s n xs ≡ Some f → Told s n xs f
-  told s n [] f e = absurd (let z : ◌≡◌ {A = ℕ} 0 1 = cc in omega arith)
+  told s n [] f e = absurd (cc)
   told s n (x ∷ xs) f e = told_line s n x xs f (rules s n x (none_left xs)) (said s n x (none_left xs)) (told (next s x) (n + 1) xs f) e
 
   no_lines : {Y : Type 0} (a : List Y) (y : Y) (b : List Y) → [] ≡ a ++ y ∷ b → ⊥
-  no_lines [] y b e = let z : ◌≡◌ {A = ℕ} 0 1 = cc in omega arith
-  no_lines (c ∷ a) y b e = let z : ◌≡◌ {A = ℕ} 0 1 = cc in omega arith
+  no_lines [] y b e = cc
+  no_lines (c ∷ a) y b e = cc
 
   clean_line : (s : S) (n : ℕ) (x : X) (xs : List X) (o : Option F) → Line s n x (none_left xs) o → (first next rules (next s x) (n + 1) xs ≡ None → (j q : ℕ) → Breaks next keeps (next s x) (n + 1) xs j q → ⊥) → or_else o (first next rules (next s x) (n + 1) xs) ≡ None → (j q : ℕ) → Breaks next keeps s n (x ∷ xs) j q → ⊥
-  clean_line s n x xs _ (fails r small broken low) on e j q h = absurd (let z : ◌≡◌ {A = ℕ} 0 1 = cc in omega arith)
+  clean_line s n x xs _ (fails r small broken low) on e j q h = absurd (cc)
   clean_line s n x xs _ (stands none) on e j q h = split s n x xs j q h (λ y. none q y.1) (λ y. on e j q y.1)
 
   pub clean : (s : S) (n : ℕ) (xs : List X) → first next rules s n xs ≡ None → (j q : ℕ) → Breaks next keeps s n xs j q → ⊥

@@ -63,9 +63,6 @@ module _ (bs : List ℕ) where
   in_lines lo hi i r least _ _ _ (of_shape j q h) = inl (omega arith)
   in_lines lo hi i r least _ _ _ (of_kinds j q h) = inl (omega arith)
 
-  LineLeast : LineFault → Type 0
-  LineLeast x = Least bs (k.Shape (e.Line x))
-
   of_told : 1 ≤ length bs → length bs ≤ 65536 → (i r : ℕ) → r < 3 → Breaks same keeps_line tt 1 (lines_in bs) i r → ((j q : ℕ) → Breaks same keeps_line tt 1 (lines_in bs) j q → (i < j) ⊎ ((i ≡ j) × (r ≤ q))) → Least bs (k.Shape (e.Line (line_fault_by r i)))
   of_told lo hi i zero s h least = record { has = of_line i 0 h; least = in_lines lo hi i 0 least }
   of_told lo hi i (suc zero) s h least = record { has = of_line i 1 h; least = in_lines lo hi i 1 least }
@@ -80,8 +77,8 @@ module _ (bs : List ℕ) where
       subst (λ (y : LineFault). Least bs (k.Shape (e.Line y))) (sym t.is) (of_told (leb-true 1 (length bs) p) (leb-true (length bs) 65536 q) t.at t.rule t.small t.breaks t.least)
 
   line_clean : (a b : Bool) → leb 1 (length bs) ≡ a → leb (length bs) 65536 ≡ b → cond (a && b) (line_fault 1 (lines_in bs)) (Some (f.Length 0)) ≡ None → (1 ≤ length bs) × (length bs ≤ 65536) × ((j q : ℕ) → Breaks same keeps_line tt 1 (lines_in bs) j q → ⊥)
-  line_clean false b p q h = absurd (let z : ◌≡◌ {A = ℕ} 0 1 = cc in omega arith)
-  line_clean true false p q h = absurd (let z : ◌≡◌ {A = ℕ} 0 1 = cc in omega arith)
+  line_clean false b p q h = absurd (cc)
+  line_clean true false p q h = absurd (cc)
   line_clean true true p q h = (leb-true 1 (length bs) p, leb-true (length bs) 65536 q, clean same line_rules keeps_line line_fault_by line_by (λ r s x b. refl) tt 1 (lines_in bs) h)
 
   -- layer 2
@@ -122,7 +119,7 @@ module _ (bs : List ℕ) where
       of_kinds_told : (i r : ℕ) → Breaks (known_after (heads_of (lines_of bs))) (keeps_kinds (heads_of (lines_of bs))) unknown 1 (lines_of bs) i r → ((j q : ℕ) → Breaks (known_after (heads_of (lines_of bs))) (keeps_kinds (heads_of (lines_of bs))) unknown 1 (lines_of bs) j q → (i < j) ⊎ ((i ≡ j) × (r ≤ q))) → Least bs (kind_fault_by r i)
       of_kinds_told i zero h least = record { has = of_kinds i 0 h; least = in_kinds i 0 least }
       of_kinds_told i (suc zero) h least = record { has = of_kinds i 1 h; least = in_kinds i 1 least }
-      of_kinds_told i (suc (suc r)) h least = absurd (let p = h.broken in let z : ◌≡◌ {A = ℕ} 0 1 = cc in omega arith)
+      of_kinds_told i (suc (suc r)) h least = absurd (let p = h.broken in cc)
 
       kinds_least : (x : KindFault) → kind_fault_of (lines_of bs) ≡ Some x → Least bs x
       kinds_least x h =
@@ -141,8 +138,8 @@ module _ (bs : List ℕ) where
   least_by None None p q x h = kinds_least p q x h
 
   none_by : (o₁ : Option LineFault) (o₂ : Option ShapeFault) → text_fault bs ≡ o₁ → shape_fault_of (lines_of bs) ≡ o₂ → over_shape (over_lines o₁ o₂) (kind_fault_of (lines_of bs)) ≡ None → Faultless bs
-  none_by (Some y) o₂ p q h = absurd (let z : ◌≡◌ {A = ℕ} 0 1 = cc in omega arith)
-  none_by None (Some y) p q h = absurd (let z : ◌≡◌ {A = ℕ} 0 1 = cc in omega arith)
+  none_by (Some y) o₂ p q h = absurd (cc)
+  none_by None (Some y) p q h = absurd (cc)
   none_by None None p q h = faultless p q h
 
   pub told_least : (x : KindFault) → fault_of bs ≡ Some x → Least bs x

@@ -1,5 +1,5 @@
--- The number, the layer and the line of every fault of a text: the one definition for all cases.
-use Rattle.std.specs.Prelude.{ℕ}
+-- The number, the layer and the line of every fault of a text: the one definition for all cases; and its words.
+use Rattle.std.specs.Prelude.{ℕ, List, ◌++◌, codes, decimal}
 use Rattle.text.specs.declared.line.LineFault.TheVariants as f
 use Rattle.shape.specs.declared.fault.ShapeFault.TheVariants as s
 use Rattle.kinds.specs.declared.fault.KindFault.{KindFault}
@@ -32,3 +32,6 @@ line_at (k.Shape (s.Count n)) = n
 line_at (k.Shape (s.Range n)) = n
 line_at (k.Missing n) = n
 line_at (k.Kinds n) = n
+
+abbrev pub words_of : KindFault → List ℕ
+words_of f = codes "fault " ++ (decimal (number_of f) ++ (codes " line " ++ (decimal (line_at f) ++ (codes " layer " ++ decimal (layer_of f)))))

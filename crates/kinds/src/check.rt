@@ -6,7 +6,7 @@ ghost use Rattle.kinds.specs.Held.{heads_held, Tells};
 ghost use Rattle.kinds.specs.Laws.{Judged};
 
 use crate::fault::Refusal;
-use crate::registers::Registers;
+use crate::scope::Scope;
 use shape::check::check_shape;
 use std::alloc::{AllocError, Global};
 use text::fields::Fields;
@@ -19,28 +19,13 @@ fn heads<'a>(heap: Global, text: &'a [u8]) -> Result<Vec<Fields<'a>>, AllocError
     ensures { IfOk result (λ v. heads_held v.items ≡ heads_of (lines_of text.now)) }
 {
     let mut heads = Vec::new(heap);
-    let mut lines = Lines::of(text);
-    while let Some(line) = lines.next_line() {
+    for line in Lines::of(text) {
         let Parts { word, fields, .. } = line.parts();
-        heads = with_head(heads, word, fields)?;
+        if let Word::Fun = word {
+            heads.push(fields)?;
+        }
     }
     Ok(heads)
-}
-
-fn with_head<'a>(
-    mut heads: Vec<Fields<'a>>,
-    word: Word,
-    fields: Fields<'a>,
-) -> Result<Vec<Fields<'a>>, AllocError>
-    ensures { IfOk result (λ v. heads_held v.items ≡ heads_held heads.entry.items ++ head_line word (values fields.entry)) }
-{
-    match word {
-        Word::Fun => {
-            heads.push(fields)?;
-            Ok(heads)
-        }
-        _ => Ok(heads),
-    }
 }
 
 // The fault that is told of a text, if it has one.
@@ -49,18 +34,11 @@ fn check_rules(heap: Global, text: &[u8]) -> Result<(), Refusal>
 {
     check_shape(text)?;
     let heads = heads(heap, text)?;
-    let mut registers = Registers::none(heap);
-    let mut lines = Lines::of(text);
-    while let Some(line) = lines.next_line() {
-        let Parts {
-            number,
-            word,
-            fields,
-        } = line.parts();
-        if let Some(fault) = registers.refusal(heads.as_slice(), number, word, fields) {
-            return Err(Refusal::Fault(fault));
-        }
-        registers = registers.after(heap, heads.as_slice(), word, fields)?;
+    let mut scope = Scope::of(heap, heads);
+    for line in Lines::of(text) {
+        let parts = line.parts();
+        scope.judge(parts)?;
+        scope.pass(heap, parts)?;
     }
     Ok(())
 }

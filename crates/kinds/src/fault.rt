@@ -5,6 +5,7 @@ ghost use Rattle.kinds.specs.declared.fault.Refusal.TheVariants.{Fault, Memory};
 
 use shape::fault::ShapeFault;
 use std::alloc::AllocError;
+use std::fmt;
 use text::line::LineFault;
 
 // A fault of layer 1 or 2, or one of layer 3: a register, function or input that is not there, kinds or argument numbers
@@ -104,5 +105,20 @@ impl KindFault {
             ) => line,
             KindFault::Missing { line } | KindFault::Kinds { line } => line,
         }
+    }
+}
+
+// What the writer of the text is told.
+impl fmt::Display for KindFault {
+    ghost use Rattle.std.specs.Prelude.{Some};
+    ghost use Rattle.kinds.specs.Faults.{words_of};
+
+    ghost output = { λ f. Some (words_of f) };
+
+    fn fmt<W: fmt::Write>(&self, f: &mut fmt::Formatter<W>) -> fmt::Result {
+        let number = self.number();
+        let line = self.line();
+        let layer = self.layer();
+        write!(f, "fault {number} line {line} layer {layer}")
     }
 }

@@ -1,12 +1,14 @@
-ghost use Rattle.std.specs.Prelude.{◌≡◌, List, [], ◌∷◌, length, Some, None};
+ghost use Rattle.std.specs.Prelude.{◌≡◌, false, vec_len};
 ghost use Rattle.text.specs.Values.{values};
-ghost use Rattle.text.specs.declared.line.Word.TheVariants.{Get, Cas};
+ghost use Rattle.text.specs.First.{answer};
 ghost use Rattle.kinds.specs.Named.{names, below, there, all_there};
-ghost use Rattle.kinds.specs.Kinds.{same_kind, kind_in, head_in, is_kind, starts, takes, accepts, entered, agrees};
-ghost use Rattle.kinds.specs.Held.{heads_held};
+ghost use Rattle.kinds.specs.Kinds.{same_kind, kind_in, head_in, is_kind, starts, takes, accepts, entered, agrees, kind_rules};
+ghost use Rattle.kinds.specs.Held.{heads_known, known};
 
+use crate::fault::KindFault;
+use crate::scope::Scope;
 use text::fields::{Fields, Kind};
-use text::line::Word;
+use text::line::{Parts, Word};
 
 // What a field names: nothing, a register (of RUN, an input) or a function.
 #[derive(Clone, Copy, PartialEq, Eq)]
@@ -51,174 +53,144 @@ fn names_of(word: Word, j: usize) -> Names
 fn is_below(n: usize, v: Option<usize>) -> bool
     ensures { result ≡ below n v }
 {
-    match v {
-        Some(i) => i < n,
-        None => false,
-    }
+    v.is_some_and(|i| i < n)
 }
 
-fn is_there(registers: usize, functions: usize, names: Names, v: Option<usize>) -> bool
-    ensures { result ≡ there registers functions names v }
-{
-    match names {
-        Names::Value => true,
-        Names::Register => is_below(registers, v),
-        Names::Function => is_below(functions, v),
-    }
-}
-
-// Whether all that a line names is there, among so many registers and functions.
-pub(crate) fn are_there(registers: usize, functions: usize, word: Word, fields: Fields<'_>) -> bool
-    ensures { result ≡ all_there registers functions word 0 (values fields.entry) }
-{
-    for j in 0..fields.count() {
-        if !is_there(registers, functions, names_of(word, j), fields.index(j)) {
-            return false;
-        }
-    }
-    true
-}
-
+// Whether there are two kinds, and they are one.
 fn same(a: Option<Kind>, b: Option<Kind>) -> bool
     ensures { result ≡ same_kind a b }
 {
-    match (a, b) {
-        (Some(Kind::Number), Some(Kind::Number))
-        | (Some(Kind::ModNumber), Some(Kind::ModNumber))
-        | (Some(Kind::ModList), Some(Kind::ModList)) => true,
-        _ => false,
-    }
+    a.is_some_and(|kind| b == Some(kind))
 }
 
-// The kind of register v.
-fn kind_of(kinds: &[Kind], v: Option<usize>) -> Option<Kind>
-    ensures { result ≡ kind_in kinds.now v }
-{
-    match v {
-        Some(i) => if i < kinds.len() {
-            Some(kinds[i])
-        } else {
-            None
-        },
-        None => None,
-    }
-}
-
-// Whether field j names a register of this kind.
-fn holds(kinds: &[Kind], fields: Fields<'_>, j: usize, kind: Kind) -> bool
-    ensures { result ≡ is_kind kinds.now (values fields.entry) j kind }
-{
-    same(kind_of(kinds, fields.index(j)), Some(kind))
-}
-
+// Whether parameters begin with these kinds.
 fn begin_with(lead: &[Kind], params: Fields<'_>) -> bool
     ensures { result ≡ starts lead.now (values params.entry) }
 {
-    for j in 0..lead.len() {
-        if j >= params.count() || !same(Some(lead[j]), params.kind(j)) {
-            return false;
+    lead.iter()
+        .enumerate()
+        .all(|(j, kind)| params.kind(j) == Some(*kind))
+}
+
+impl<'a> Scope<'a> {
+    // The fault of a line, if it has one.
+    pub(crate) fn judge(&self, line: Parts<'_>) -> Result<(), KindFault>
+        ensures { result ≡ answer tt (kind_rules (heads_known self.now) (known self.now) line.entry.number (line.entry.word, values line.entry.fields) false) }
+    {
+        let Parts {
+            number,
+            word,
+            fields,
+        } = line;
+        if !self.has_all(word, fields) {
+            return Err(KindFault::Missing { line: number });
+        }
+        if !self.agrees(word, fields) {
+            return Err(KindFault::Kinds { line: number });
+        }
+        Ok(())
+    }
+
+    // Whether all that a line names is there.
+    fn has_all(&self, word: Word, fields: Fields<'_>) -> bool
+        ensures { result ≡ all_there (vec_len self.now.kinds) (vec_len self.now.heads) word 0 (values fields.entry) }
+    {
+        fields.numbers().enumerate().all(|(j, number)| self.has(
+            names_of(word, j),
+            usize::try_from(number).ok(),
+        ))
+    }
+
+    fn has(&self, names: Names, v: Option<usize>) -> bool
+        ensures { result ≡ there (vec_len self.now.kinds) (vec_len self.now.heads) names v }
+    {
+        match names {
+            Names::Value => true,
+            Names::Register => is_below(self.kinds.len(), v),
+            Names::Function => is_below(self.heads.len(), v),
         }
     }
-    true
-}
 
-fn agree(kinds: &[Kind], args: Fields<'_>, params: Fields<'_>) -> bool
-    ensures { result ≡ takes kinds.now (values args.entry) (values params.entry) }
-{
-    if args.count() != params.count() {
-        return false;
-    }
-    for j in 0..args.count() {
-        if !same(kind_of(kinds, args.index(j)), params.kind(j)) {
-            return false;
+    // Whether kinds and numbers of arguments agree.
+    fn agrees(&self, word: Word, fields: Fields<'_>) -> bool
+        ensures { result ≡ agrees (heads_known self.now) self.now.kinds.items self.now.result word (values fields.entry) }
+    {
+        match word {
+            Word::Inp | Word::Fun | Word::Lit => true,
+            Word::Run => self.accepts(Some(0), &[], fields),
+            Word::Add | Word::Sub | Word::Mul | Word::Div | Word::Min | Word::Max => {
+                self.holds(fields, 0, Kind::Number) && self.holds(fields, 1, Kind::Number)
+            }
+            Word::New => self.accepts(fields.index(0), &[], fields.skip(1)),
+            Word::Put => self.holds(fields, 0, Kind::Number) && self.result == Kind::ModNumber,
+            Word::Nil => self.result == Kind::ModList,
+            Word::Con => {
+                self.holds(fields, 0, Kind::ModNumber)
+                    && self.holds(fields, 1, Kind::ModList)
+                    && self.result == Kind::ModList
+            }
+            Word::Get => {
+                self.holds(fields, 0, Kind::ModNumber)
+                    && self.enters(fields.index(1), &[Kind::Number], fields.skip(2))
+            }
+            Word::Cas => {
+                let args = fields.skip(3);
+                self.holds(fields, 0, Kind::ModList)
+                    && self.enters(fields.index(1), &[], args)
+                    && self.enters(fields.index(2), &[Kind::ModNumber, Kind::ModList], args)
+            }
         }
     }
-    true
-}
 
-// Whether a function of this head takes values of the kinds `lead`, then the arguments.
-fn accepting(head: Fields<'_>, lead: &[Kind], kinds: &[Kind], args: Fields<'_>) -> bool
-    ensures { result ≡ accepts (values head.entry) lead.now kinds.now (values args.entry) }
-{
-    let params = head.skip(1);
-    begin_with(lead, params) && agree(kinds, args, params.skip(lead.len()))
-}
-
-// The same, entered by a tail of a function with the given result.
-fn entering(head: Fields<'_>, res: Kind, lead: &[Kind], kinds: &[Kind], args: Fields<'_>) -> bool
-    ensures { result ≡ entered (values head.entry) res lead.now kinds.now (values args.entry) }
-{
-    same(Some(res), head.kind(0)) && accepting(head, lead, kinds, args)
-}
-
-// The head of function v.
-pub(crate) fn head_of<'a>(heads: &[Fields<'a>], v: Option<usize>) -> Fields<'a>
-    ensures { values result ≡ head_in (heads_held heads.now) v }
-{
-    let Some(i) = v else {
-        return Fields::none();
-    };
-    if i >= heads.len() {
-        return Fields::none();
+    // The kind of register v.
+    fn kind_of(&self, v: Option<usize>) -> Option<Kind>
+        ensures { result ≡ kind_in self.now.kinds.items v }
+    {
+        self.kinds.get(v?).copied()
     }
-    heads[i]
-}
 
-// Whether kinds and numbers of arguments agree.
-pub(crate) fn agreeing(
-    heads: &[Fields<'_>],
-    kinds: &[Kind],
-    res: Kind,
-    word: Word,
-    fields: Fields<'_>,
-) -> bool
-    ensures { result ≡ agrees (heads_held heads.now) kinds.now res word (values fields.entry) }
-{
-    match word {
-        Word::Inp | Word::Fun | Word::Lit => true,
-        Word::Run => accepting(head_of(heads, Some(0)), &[], kinds, fields),
-        Word::Add | Word::Sub | Word::Mul | Word::Div | Word::Min | Word::Max => {
-            holds(kinds, fields, 0, Kind::Number) && holds(kinds, fields, 1, Kind::Number)
-        }
-        Word::New => accepting(head_of(heads, fields.index(0)), &[], kinds, fields.skip(1)),
-        Word::Put => holds(kinds, fields, 0, Kind::Number)
-            && same(Some(res), Some(Kind::ModNumber)),
-        Word::Nil => same(Some(res), Some(Kind::ModList)),
-        Word::Con => {
-            holds(kinds, fields, 0, Kind::ModNumber)
-                && holds(kinds, fields, 1, Kind::ModList)
-                && same(Some(res), Some(Kind::ModList))
-        }
-        Word::Get => getting(heads, kinds, res, fields),
-        Word::Cas => choosing(heads, kinds, res, fields),
+    // Whether field j names a register of this kind.
+    fn holds(&self, fields: Fields<'_>, j: usize, kind: Kind) -> bool
+        ensures { result ≡ is_kind self.now.kinds.items (values fields.entry) j kind }
+    {
+        self.kind_of(fields.index(j)) == Some(kind)
     }
-}
 
-fn getting(heads: &[Fields<'_>], kinds: &[Kind], res: Kind, fields: Fields<'_>) -> bool
-    ensures { result ≡ agrees (heads_held heads.now) kinds.now res Get (values fields.entry) }
-{
-    let args = fields.skip(2);
-    holds(kinds, fields, 0, Kind::ModNumber)
-        && entering(
-            head_of(heads, fields.index(1)),
-            res,
-            &[Kind::Number],
-            kinds,
-            args,
-        )
-}
+    // The head of function v.
+    pub(crate) fn head_of(&self, v: Option<usize>) -> Fields<'a>
+        ensures { values result ≡ head_in (heads_known self.now) v }
+    {
+        let Some(i) = v else {
+            return Fields::none();
+        };
+        self.heads.get(i).copied().unwrap_or(Fields::none())
+    }
 
-fn choosing(heads: &[Fields<'_>], kinds: &[Kind], res: Kind, fields: Fields<'_>) -> bool
-    ensures { result ≡ agrees (heads_held heads.now) kinds.now res Cas (values fields.entry) }
-{
-    let args = fields.skip(3);
-    holds(kinds, fields, 0, Kind::ModList)
-        && entering(head_of(heads, fields.index(1)), res, &[], kinds, args)
-        && entering(
-            head_of(heads, fields.index(2)),
-            res,
-            &[Kind::ModNumber, Kind::ModList],
-            kinds,
-            args,
-        )
+    // Whether the registers that arguments name are of the kinds of these parameters.
+    fn takes(&self, args: Fields<'_>, params: Fields<'_>) -> bool
+        ensures { result ≡ takes self.now.kinds.items (values args.entry) (values params.entry) }
+    {
+        args.count() == params.count()
+            && args.numbers().zip(params.numbers()).all(|(arg, param)| {
+                same(
+                    self.kind_of(usize::try_from(arg).ok()),
+                    Kind::try_from(param).ok(),
+                )
+            })
+    }
+
+    // Whether function v takes values of the kinds `lead`, then the arguments.
+    fn accepts(&self, v: Option<usize>, lead: &[Kind], args: Fields<'_>) -> bool
+        ensures { result ≡ accepts (head_in (heads_known self.now) v) lead.now self.now.kinds.items (values args.entry) }
+    {
+        let params = self.head_of(v).skip(1);
+        begin_with(lead, params) && self.takes(args, params.skip(lead.len()))
+    }
+
+    // The same, entered by a tail, whose function has the result kind that the entered one has.
+    fn enters(&self, v: Option<usize>, lead: &[Kind], args: Fields<'_>) -> bool
+        ensures { result ≡ entered (head_in (heads_known self.now) v) self.now.result lead.now self.now.kinds.items (values args.entry) }
+    {
+        self.head_of(v).kind(0) == Some(self.result) && self.accepts(v, lead, args)
+    }
 }

@@ -1,5 +1,5 @@
 -- A text without a fault: its lines are formed and fit their columns.
-use Rattle.std.proofs.Common.{◌≡◌, ℕ, Bool, true, false, cond, eqb, List, [], ◌∷◌, map, get_or, ℤ, pos, None, sym, refl, ap, ◌∙◌, subst, arith}
+use Rattle.std.proofs.Common.{◌≡◌, ℕ, Bool, true, false, cond, eqb, List, [], ◌∷◌, map, get_or, ℤ, pos, None, sym, refl, ap, ◌∙◌, subst}
 use Rattle.std.specs.List.{flat_map}
 use Rattle.text.specs.First.{none_left}
 use Rattle.text.specs.Lines.{Said, Raw, lines_in, longer, reading, lines_of, text_fault, standing}
@@ -23,11 +23,11 @@ some_cut true b bs = refl
 some_cut false b bs = some_longer b (lines_in bs)
 
 some_lines : (bs : List ℕ) → text_fault bs ≡ None → none_left (lines_of bs) ≡ false
-some_lines [] e = absurd (let z : ◌≡◌ {A = ℕ} 0 1 = cc in omega arith)
+some_lines [] e = absurd (cc)
 some_lines (b ∷ bs) e = some_cut (eqb b 10) b bs
 
 lines_formed : (ls : List Said) → none_left ls ≡ false → shape_fault_of ls ≡ None → kind_fault_of ls ≡ None → Formed d.Inputs ls
-lines_formed [] n e f = absurd (let z : ◌≡◌ {A = ℕ} 0 1 = cc in omega arith)
+lines_formed [] n e f = absurd (cc)
 lines_formed (x ∷ xs) n e f = formed (heads_of (x ∷ xs)) start unknown 1 x xs e f
 
 pub record FaultlessLines (bs : List ℕ) : Type 0 where

@@ -25,25 +25,25 @@ use Rattle.program.proofs.Entries.{named_whole}
 
 pub all_three : {F : Type 0} (a b c : Bool) (f g h : F) → cond a (cond b (cond c None (Some f)) (Some g)) (Some h) ≡ None → (a ≡ true) × (b ≡ true) × (c ≡ true)
 all_three true true true f g h e = (refl, refl, refl)
-all_three true true false f g h e = absurd (let z : ◌≡◌ {A = ℕ} 0 1 = cc in omega arith)
-all_three true false c f g h e = absurd (let z : ◌≡◌ {A = ℕ} 0 1 = cc in omega arith)
-all_three false b c f g h e = absurd (let z : ◌≡◌ {A = ℕ} 0 1 = cc in omega arith)
+all_three true true false f g h e = absurd (cc)
+all_three true false c f g h e = absurd (cc)
+all_three false b c f g h e = absurd (cc)
 
 all_two : {F : Type 0} (a b : Bool) (f g : F) → cond a (cond b None (Some f)) (Some g) ≡ None → a ≡ true
 all_two true b f g e = refl
-all_two false b f g e = absurd (let z : ◌≡◌ {A = ℕ} 0 1 = cc in omega arith)
+all_two false b f g e = absurd (cc)
 
 -- the fields of INP and of FUN
 inputs_whole : (zs : List ℤ) → length zs ≡ 2 → inputs_fit (whole_of (get_or zs 0 (pos 0))) (whole_of (get_or zs 1 (pos 0))) ≡ true → Whole zs
 inputs_whole [] l e = absurd (omega arith)
 inputs_whole (a ∷ []) l e = absurd (omega arith)
 inputs_whole (pos a ∷ pos b ∷ []) l e = refl
-inputs_whole (pos a ∷ negsuc b ∷ []) l e = absurd (let z : ◌≡◌ {A = ℕ} 0 1 = cc in omega arith)
-inputs_whole (negsuc a ∷ b ∷ []) l e = absurd (let z : ◌≡◌ {A = ℕ} 0 1 = cc in omega arith)
+inputs_whole (pos a ∷ negsuc b ∷ []) l e = absurd (cc)
+inputs_whole (negsuc a ∷ b ∷ []) l e = absurd (cc)
 inputs_whole (a ∷ b ∷ c ∷ zs) l e = absurd (omega arith)
 
 kind_back : (z : ℤ) → is_some (kind_of z) ≡ true → kind_number (or_number (kind_of z)) ≡ z
-kind_back (negsuc n) e = absurd (let z : ◌≡◌ {A = ℕ} 0 1 = cc in omega arith)
+kind_back (negsuc n) e = absurd (cc)
 kind_back (pos n) e = by_number n (eqb n 1) (eqb n 2) (eqb n 3) refl refl refl e
   where
     eqb_is : (a b : ℕ) → eqb a b ≡ true → a ≡ b
@@ -53,7 +53,7 @@ kind_back (pos n) e = by_number n (eqb n 1) (eqb n 2) (eqb n 3) refl refl refl e
     by_number n true b c p q r e = let x = eqb_is n 1 p in rw p (ap pos (sym x))
     by_number n false true c p q r e = let x = eqb_is n 2 q in rw (p, q) (ap pos (sym x))
     by_number n false false true p q r e = let x = eqb_is n 3 r in rw (p, q, r) (ap pos (sym x))
-    by_number n false false false p q r e = absurd (let z : ◌≡◌ {A = ℕ} 0 1 = cc in omega arith)
+    by_number n false false false p q r e = absurd (cc)
 
 kinds_back : (zs : List ℤ) → all_kinds zs ≡ true → map kind_number (kinds_in zs) ≡ zs
 kinds_back [] e = refl
@@ -62,7 +62,7 @@ kinds_back (z ∷ zs) e =
     ap (λ y. y ∷ map kind_number (kinds_in zs)) (kind_back z h.0) ∙ ap (λ ys. z ∷ ys) (kinds_back zs h.1)
 
 result_some : (o : Option Kind) → result_kind o ≡ true → is_some o ≡ true
-result_some None e = absurd (let z : ◌≡◌ {A = ℕ} 0 1 = cc in omega arith)
+result_some None e = absurd (cc)
 result_some (Some x) e = refl
 
 head_back : (zs : List ℤ) → 1 ≤ length zs → (b : Bool) → (b && (result_kind (kind_of (get_or zs 0 (pos 0))) && all_kinds (drop 1 zs))) ≡ true → map kind_number (kinds_in zs) ≡ zs
@@ -77,15 +77,15 @@ few : (k : Word) (n : ℕ) → counted k n ≡ true → (fewest k ≤ n) × (n �
 few k n e = let h = and_parts (leb (fewest k) n) (leb n (most k)) e in (leb-true (fewest k) n h.0, leb-true n (most k) h.1)
 
 named : (b : Bool) → cond b m.Function m.Register ≡ m.Value → ⊥
-named true e = let z : ◌≡◌ {A = ℕ} 0 1 = cc in omega arith
-named false e = let z : ◌≡◌ {A = ℕ} 0 1 = cc in omega arith
+named true e = cc
+named false e = cc
 
 either_named : (a b : Bool) → cond a m.Function (cond b m.Function m.Register) ≡ m.Value → ⊥
-either_named true b e = let z : ◌≡◌ {A = ℕ} 0 1 = cc in omega arith
+either_named true b e = cc
 either_named false b e = named b e
 
 register : m.Register ≡ m.Value → ⊥
-register e = let z : ◌≡◌ {A = ℕ} 0 1 = cc in omega arith
+register e = cc
 
 module _ (s : Standing) (rs fs : ℕ) where
   held : (k : Word) (zs : List ℤ) → counted k (length zs) ≡ true → ranged s (part_of k) zs ≡ true → all_there rs fs k 0 zs ≡ true → Held k zs
@@ -116,14 +116,14 @@ due_is s p.Tail n = refl
 
 tail_last : (b : Bool) (x : Part) → (b && is_tail x) ≡ true → due_after x ≡ d.Head
 tail_last b p.Tail e = refl
-tail_last true p.Inputs e = absurd (let z : ◌≡◌ {A = ℕ} 0 1 = cc in omega arith)
-tail_last true p.Run e = absurd (let z : ◌≡◌ {A = ℕ} 0 1 = cc in omega arith)
-tail_last true p.Head e = absurd (let z : ◌≡◌ {A = ℕ} 0 1 = cc in omega arith)
-tail_last true p.Command e = absurd (let z : ◌≡◌ {A = ℕ} 0 1 = cc in omega arith)
-tail_last false p.Inputs e = absurd (let z : ◌≡◌ {A = ℕ} 0 1 = cc in omega arith)
-tail_last false p.Run e = absurd (let z : ◌≡◌ {A = ℕ} 0 1 = cc in omega arith)
-tail_last false p.Head e = absurd (let z : ◌≡◌ {A = ℕ} 0 1 = cc in omega arith)
-tail_last false p.Command e = absurd (let z : ◌≡◌ {A = ℕ} 0 1 = cc in omega arith)
+tail_last true p.Inputs e = absurd (cc)
+tail_last true p.Run e = absurd (cc)
+tail_last true p.Head e = absurd (cc)
+tail_last true p.Command e = absurd (cc)
+tail_last false p.Inputs e = absurd (cc)
+tail_last false p.Run e = absurd (cc)
+tail_last false p.Head e = absurd (cc)
+tail_last false p.Command e = absurd (cc)
 
 module _ (hs : List (List ℤ)) where
   pub formed : (s : Standing) (g : Known) (n : ℕ) (x : Said) (xs : List Said) → first after shape_rules s n (x ∷ xs) ≡ None → first (known_after hs) (kind_rules hs) g n (x ∷ xs) ≡ None → Formed s.due (x ∷ xs)

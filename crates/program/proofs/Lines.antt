@@ -11,7 +11,7 @@ use Rattle.shape.specs.declared.standing.Part.{Part}
 use Rattle.shape.specs.declared.standing.Part.TheVariants as p
 use Rattle.shape.specs.declared.standing.Due.{Due}
 use Rattle.shape.specs.declared.standing.Due.TheVariants as d
-use Rattle.shape.specs.Parts.{part_of, fits, is_tail}
+use Rattle.shape.specs.Parts.{part_of, fits}
 use Rattle.kinds.specs.Kinds.{kinds_in, or_number}
 use Rattle.program.specs.declared.function.Function.{Function}
 use Rattle.program.specs.Programs.{command_line, tail_line, head_said, function_lines, lines_with, wholes}
@@ -22,19 +22,12 @@ use Rattle.program.proofs.Entries.{two_back}
 pub next_formed : (due : Due) (l m : List Said) (k : Word) (zs : List ℤ) (x : Said) → l ≡ x ∷ m → (k, zs) ≡ x → Formed due l → (fits due (part_of k) ≡ true) × Held k zs × Formed (due_after (part_of k)) m
 next_formed due l m k zs x e q f = subst (Formed due) (e ∙ ap (λ y. y ∷ m) (sym q)) f
 
-pub body_tail : (x : Part) → fits d.Body x ≡ true → is_tail x ≡ true → x ≡ p.Tail
-body_tail p.Tail f t = refl
-body_tail p.Inputs f t = absurd (let z : ◌≡◌ {A = ℕ} 0 1 = cc in omega arith)
-body_tail p.Run f t = absurd (let z : ◌≡◌ {A = ℕ} 0 1 = cc in omega arith)
-body_tail p.Head f t = absurd (let z : ◌≡◌ {A = ℕ} 0 1 = cc in omega arith)
-body_tail p.Command f t = absurd (let z : ◌≡◌ {A = ℕ} 0 1 = cc in omega arith)
-
-pub body_command : (x : Part) → fits d.Body x ≡ true → is_tail x ≡ false → x ≡ p.Command
+pub body_command : (x : Part) → fits d.Body x ≡ true → (x ≡ p.Tail → ⊥) → x ≡ p.Command
 body_command p.Command f t = refl
-body_command p.Inputs f t = absurd (let z : ◌≡◌ {A = ℕ} 0 1 = cc in omega arith)
-body_command p.Run f t = absurd (let z : ◌≡◌ {A = ℕ} 0 1 = cc in omega arith)
-body_command p.Head f t = absurd (let z : ◌≡◌ {A = ℕ} 0 1 = cc in omega arith)
-body_command p.Tail f t = absurd (let z : ◌≡◌ {A = ℕ} 0 1 = cc in omega arith)
+body_command p.Tail f t = absurd (t refl)
+body_command p.Inputs f t = absurd (cc)
+body_command p.Run f t = absurd (cc)
+body_command p.Head f t = absurd (cc)
 
 -- the parts of one word
 abbrev single : Part → Bool
@@ -55,49 +48,39 @@ sole_is : (k : Word) → single (part_of k) ≡ true → k ≡ sole (part_of k)
 sole_is w.Inp e = refl
 sole_is w.Run e = refl
 sole_is w.Fun e = refl
-sole_is w.Lit e = absurd (let z : ◌≡◌ {A = ℕ} 0 1 = cc in omega arith)
-sole_is w.Add e = absurd (let z : ◌≡◌ {A = ℕ} 0 1 = cc in omega arith)
-sole_is w.Sub e = absurd (let z : ◌≡◌ {A = ℕ} 0 1 = cc in omega arith)
-sole_is w.Mul e = absurd (let z : ◌≡◌ {A = ℕ} 0 1 = cc in omega arith)
-sole_is w.Div e = absurd (let z : ◌≡◌ {A = ℕ} 0 1 = cc in omega arith)
-sole_is w.Min e = absurd (let z : ◌≡◌ {A = ℕ} 0 1 = cc in omega arith)
-sole_is w.Max e = absurd (let z : ◌≡◌ {A = ℕ} 0 1 = cc in omega arith)
-sole_is w.New e = absurd (let z : ◌≡◌ {A = ℕ} 0 1 = cc in omega arith)
-sole_is w.Put e = absurd (let z : ◌≡◌ {A = ℕ} 0 1 = cc in omega arith)
-sole_is w.Nil e = absurd (let z : ◌≡◌ {A = ℕ} 0 1 = cc in omega arith)
-sole_is w.Con e = absurd (let z : ◌≡◌ {A = ℕ} 0 1 = cc in omega arith)
-sole_is w.Get e = absurd (let z : ◌≡◌ {A = ℕ} 0 1 = cc in omega arith)
-sole_is w.Cas e = absurd (let z : ◌≡◌ {A = ℕ} 0 1 = cc in omega arith)
+sole_is w.Lit e = absurd (cc)
+sole_is w.Add e = absurd (cc)
+sole_is w.Sub e = absurd (cc)
+sole_is w.Mul e = absurd (cc)
+sole_is w.Div e = absurd (cc)
+sole_is w.Min e = absurd (cc)
+sole_is w.Max e = absurd (cc)
+sole_is w.New e = absurd (cc)
+sole_is w.Put e = absurd (cc)
+sole_is w.Nil e = absurd (cc)
+sole_is w.Con e = absurd (cc)
+sole_is w.Get e = absurd (cc)
+sole_is w.Cas e = absurd (cc)
 
 inputs_part : (x : Part) → fits d.Inputs x ≡ true → x ≡ p.Inputs
 inputs_part p.Inputs e = refl
-inputs_part p.Run e = absurd (let z : ◌≡◌ {A = ℕ} 0 1 = cc in omega arith)
-inputs_part p.Head e = absurd (let z : ◌≡◌ {A = ℕ} 0 1 = cc in omega arith)
-inputs_part p.Command e = absurd (let z : ◌≡◌ {A = ℕ} 0 1 = cc in omega arith)
-inputs_part p.Tail e = absurd (let z : ◌≡◌ {A = ℕ} 0 1 = cc in omega arith)
+inputs_part p.Run e = absurd (cc)
+inputs_part p.Head e = absurd (cc)
+inputs_part p.Command e = absurd (cc)
+inputs_part p.Tail e = absurd (cc)
 
 run_part : (x : Part) → fits d.Run x ≡ true → x ≡ p.Run
-run_part p.Inputs e = absurd (let z : ◌≡◌ {A = ℕ} 0 1 = cc in omega arith)
+run_part p.Inputs e = absurd (cc)
 run_part p.Run e = refl
-run_part p.Head e = absurd (let z : ◌≡◌ {A = ℕ} 0 1 = cc in omega arith)
-run_part p.Command e = absurd (let z : ◌≡◌ {A = ℕ} 0 1 = cc in omega arith)
-run_part p.Tail e = absurd (let z : ◌≡◌ {A = ℕ} 0 1 = cc in omega arith)
-
-head_part : (x : Part) → fits d.Head x ≡ true → x ≡ p.Head
-head_part p.Inputs e = absurd (let z : ◌≡◌ {A = ℕ} 0 1 = cc in omega arith)
-head_part p.Run e = absurd (let z : ◌≡◌ {A = ℕ} 0 1 = cc in omega arith)
-head_part p.Head e = refl
-head_part p.Command e = absurd (let z : ◌≡◌ {A = ℕ} 0 1 = cc in omega arith)
-head_part p.Tail e = absurd (let z : ◌≡◌ {A = ℕ} 0 1 = cc in omega arith)
+run_part p.Head e = absurd (cc)
+run_part p.Command e = absurd (cc)
+run_part p.Tail e = absurd (cc)
 
 pub inputs_due : (k : Word) → fits d.Inputs (part_of k) ≡ true → k ≡ w.Inp
 inputs_due k e = let q = inputs_part (part_of k) e in sole_is k (ap single q) ∙ ap sole q
 
 pub run_due : (k : Word) → fits d.Run (part_of k) ≡ true → k ≡ w.Run
 run_due k e = let q = run_part (part_of k) e in sole_is k (ap single q) ∙ ap sole q
-
-pub head_due : (k : Word) → fits d.Head (part_of k) ≡ true → k ≡ w.Fun
-head_due k e = let q = head_part (part_of k) e in sole_is k (ap single q) ∙ ap sole q
 
 -- a head that is read says what its line says
 pub head_read : (r : Kind) (ps : List Kind) (zs : List ℤ) → r ≡ or_number (kind_of (get_or zs 0 (pos 0))) → ps ≡ kinds_in (drop 1 zs) → Held w.Fun zs → head_said r ps ≡ (w.Fun, zs)
@@ -113,12 +96,9 @@ function_ends f h x L l m a b c e =
 pub gives : (l m : List Said) (k : Word) (zs : List ℤ) (x : Said) → l ≡ x ∷ m → (k, zs) ≡ x → Gives l zs m
 gives l m k zs x e q = subst (λ ls. Gives ls zs m) (sym (e ∙ ap (λ y. y ∷ m) (sym q))) (refl, refl)
 
-pub gives_none : (l m : List Said) (zs : List ℤ) → l ≡ [] → zs ≡ [] → m ≡ [] → Gives l zs m
-gives_none l m zs e a b = subst (λ ls. Gives ls zs m) (sym e) (a, b)
-
 -- the first two lines
 pub opening : (ls m n : List Said) (zs ys : List ℤ) → Formed d.Inputs ls → Gives ls zs m → Gives m ys n → (ls ≡ (w.Inp, zs) ∷ (w.Run, ys) ∷ n) × Held w.Inp zs × Held w.Run ys × Formed d.Head n
-opening [] m n zs ys f g h = absurd (let z : ◌≡◌ {A = ℕ} 0 1 = cc in omega arith)
+opening [] m n zs ys f g h = absurd (cc)
 opening ((k, us) ∷ ls) m n zs ys f g h =
     let e = inputs_due k f.0 in
     let a : Held w.Inp zs = subst (λ (j : Word). Held j zs) e (subst (Held k) (sym g.0) f.1) in
@@ -127,7 +107,7 @@ opening ((k, us) ∷ ls) m n zs ys f g h =
     (ap (λ (j : Word). (j, us) ∷ ls) e ∙ ap (λ us. (w.Inp, us) ∷ ls) (sym g.0) ∙ ap (λ xs. (w.Inp, zs) ∷ xs) (sym g.1 ∙ s.0), a, s.1, s.2)
   where
     second : (m n : List Said) (ys : List ℤ) → Formed d.Run m → Gives m ys n → (m ≡ (w.Run, ys) ∷ n) × Held w.Run ys × Formed d.Head n
-    second [] n ys f h = absurd (let z : ◌≡◌ {A = ℕ} 0 1 = cc in omega arith)
+    second [] n ys f h = absurd (cc)
     second ((k, bs) ∷ m) n ys f h =
         let e = run_due k f.0 in
         (ap (λ (j : Word). (j, bs) ∷ m) e ∙ ap (λ bs. (w.Run, bs) ∷ m) (sym h.0) ∙ ap (λ xs. (w.Run, ys) ∷ xs) (sym h.1), subst (λ (j : Word). Held j ys) e (subst (Held k) (sym h.0) f.1), subst (λ (j : Word). Formed (due_after (part_of j)) n) e (subst (Formed (due_after (part_of k))) (sym h.1) f.2))

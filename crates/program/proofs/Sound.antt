@@ -34,19 +34,19 @@ use Rattle.program.proofs.Viewed.{command_said, tail_said, body_said, function_s
 -- rules that tell no fault are kept
 passed : {F : Type 0} (b : Bool) (a : Option F) (x : F) → cond b a (Some x) ≡ None → (b ≡ true) × (a ≡ None)
 passed true a x e = (refl, e)
-passed false a x e = absurd (let z : ◌≡◌ {A = ℕ} 0 1 = cc in omega arith)
+passed false a x e = absurd (cc)
 
 -- kinds
 same_true : (o : Option Kind) (x : Kind) → same_kind o (Some x) ≡ true → o ≡ Some x
-same_true None x e = absurd (let z : ◌≡◌ {A = ℕ} 0 1 = cc in omega arith)
+same_true None x e = absurd (cc)
 same_true (Some k.Number) k.Number e = refl
-same_true (Some k.Number) k.ModNumber e = absurd (let z : ◌≡◌ {A = ℕ} 0 1 = cc in omega arith)
-same_true (Some k.Number) k.ModList e = absurd (let z : ◌≡◌ {A = ℕ} 0 1 = cc in omega arith)
-same_true (Some k.ModNumber) k.Number e = absurd (let z : ◌≡◌ {A = ℕ} 0 1 = cc in omega arith)
+same_true (Some k.Number) k.ModNumber e = absurd (cc)
+same_true (Some k.Number) k.ModList e = absurd (cc)
+same_true (Some k.ModNumber) k.Number e = absurd (cc)
 same_true (Some k.ModNumber) k.ModNumber e = refl
-same_true (Some k.ModNumber) k.ModList e = absurd (let z : ◌≡◌ {A = ℕ} 0 1 = cc in omega arith)
-same_true (Some k.ModList) k.Number e = absurd (let z : ◌≡◌ {A = ℕ} 0 1 = cc in omega arith)
-same_true (Some k.ModList) k.ModNumber e = absurd (let z : ◌≡◌ {A = ℕ} 0 1 = cc in omega arith)
+same_true (Some k.ModNumber) k.ModList e = absurd (cc)
+same_true (Some k.ModList) k.Number e = absurd (cc)
+same_true (Some k.ModList) k.ModNumber e = absurd (cc)
 same_true (Some k.ModList) k.ModList e = refl
 
 same_said : (o : Option Kind) (x : Kind) → same_kind o (kind_of (kind_number x)) ≡ true → o ≡ Some x
@@ -57,7 +57,7 @@ is_same x y e = let q = same_true (Some x) y e in cc
 
 holds_by : (b : Bool) (y x : Kind) → cond b (Some y) None ≡ Some x → (b ≡ true) × (y ≡ x)
 holds_by true y x e = (refl, cc)
-holds_by false y x e = absurd (let z : ◌≡◌ {A = ℕ} 0 1 = cc in omega arith)
+holds_by false y x e = absurd (cc)
 
 held_in : (ks : List Kind) (i : ℕ) (x : Kind) → kind_in ks (Some i) ≡ Some x → Holds ks i x
 held_in ks i x e = let h = holds_by (ltb i (length ks)) (get_or ks i k.Number) x e in (ltb-true i (length ks) h.0, h.1)
@@ -68,15 +68,15 @@ holds ks i x e = held_in ks i x (same_true (kind_in ks (Some i)) x e)
 -- arguments and parameters
 agree : (ks : List Kind) (args : List ℕ) (ps : List Kind) → takes ks (wholes args) (map kind_number ps) ≡ true → Agree ks args ps
 agree ks [] [] e = tt
-agree ks [] (x ∷ ps) e = let z : ◌≡◌ {A = ℕ} 0 1 = cc in omega arith
-agree ks (a ∷ args) [] e = let z : ◌≡◌ {A = ℕ} 0 1 = cc in omega arith
+agree ks [] (x ∷ ps) e = cc
+agree ks (a ∷ args) [] e = cc
 agree ks (a ∷ args) (x ∷ ps) e =
     let h = and_parts (same_kind (kind_in ks (Some a)) (kind_of (kind_number x))) (takes ks (wholes args) (map kind_number ps)) e in
     (held_in ks a x (same_said (kind_in ks (Some a)) x h.0), agree ks args ps h.1)
 
 led : (lead ps : List Kind) → starts lead (map kind_number ps) ≡ true → ps ≡ lead ++ drop (length lead) ps
 led [] ps e = refl
-led (x ∷ lead) [] e = absurd (let z : ◌≡◌ {A = ℕ} 0 1 = cc in omega arith)
+led (x ∷ lead) [] e = absurd (cc)
 led (x ∷ lead) (y ∷ ps) e =
     let h = and_parts (same_kind (Some x) (kind_of (kind_number y))) (starts lead (map kind_number ps)) e in
     let q = same_said (Some x) y h.0 in
@@ -269,7 +269,7 @@ body_fits s n (c ∷ cs) t ls l e =
     (omega arith, omega arith, record { s = g.s; n = g.n; of_functions = g.of_functions; of_steps = omega arith; stands = g.stands })
 
 writes_mod : (x : Kind) → result_kind (Some x) ≡ true → (x ≡ k.ModNumber) ⊎ (x ≡ k.ModList)
-writes_mod k.Number e = absurd (let z : ◌≡◌ {A = ℕ} 0 1 = cc in omega arith)
+writes_mod k.Number e = absurd (cc)
 writes_mod k.ModNumber e = inl refl
 writes_mod k.ModList e = inr refl
 
@@ -303,7 +303,7 @@ functions_fit s n (f ∷ fs) a b e =
 
 -- the whole program
 some_behind : (fs : List FunctionView) → placed d.Run p.Run (none_left (flat_map function_said fs)) ≡ true → 1 ≤ length fs
-some_behind [] e = absurd (let z : ◌≡◌ {A = ℕ} 0 1 = cc in omega arith)
+some_behind [] e = absurd (cc)
 some_behind (f ∷ fs) e = omega arith
 
 sound_view : (v : View) → lines_fault (view_said v) ≡ None → Sound v

@@ -32,11 +32,5 @@ impl Op {
 fn divide(a: i32, b: i32) -> i32
     ensures { result ≡ divided a b }
 {
-    if b == 0 {
-        0
-    } else if a == i32::MIN && b == -1 {
-        i32::MAX
-    } else {
-        a / b
-    }
+    if b == 0 { 0 } else { a.saturating_div(b) }
 }

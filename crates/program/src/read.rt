@@ -7,7 +7,7 @@ ghost use Rattle.text.specs.Reader.{left};
 ghost use Rattle.text.specs.Values.{values};
 ghost use Rattle.shape.specs.declared.standing.Part.TheVariants.{Command as OfCommand, Tail as OfTail};
 ghost use Rattle.shape.specs.declared.standing.Due.TheVariants.{Head as DueHead, Body as DueBody};
-ghost use Rattle.shape.specs.Parts.{part_of, is_tail};
+ghost use Rattle.shape.specs.Parts.{part_of};
 ghost use Rattle.kinds.specs.Kinds.{fault_of};
 ghost use Rattle.program.specs.Programs.{op_word, command_line, tail_line, function_lines};
 ghost use Rattle.program.specs.Formed.{entry_of, entries, Held, Formed, Gives};
@@ -16,9 +16,10 @@ ghost use Rattle.program.specs.Says.{program_lines};
 use crate::arith::Op;
 use crate::function::{Command, Function, Tail};
 use crate::program::Program;
-use kinds::registers::kinds_of;
+use kinds::registers::{kind_or_number, kinds_of};
+use shape::standing::{Part, part_of};
 use std::alloc::{AllocError, Global};
-use text::fields::{Fields, Kind};
+use text::fields::Fields;
 use text::line::{Parts, Word};
 use text::lines::Lines;
 
@@ -32,20 +33,10 @@ fn entry(fields: Fields<'_>, j: usize) -> usize
 fn entries_of(heap: Global, fields: Fields<'_>) -> Result<Vec<usize>, AllocError>
     ensures { IfOk result (λ v. v.items ≡ entries (values fields.entry)) }
 {
-    let mut named = Vec::new(heap);
-    for j in 0..fields.count() {
-        named.push(entry(fields, j))?;
-    }
-    Ok(named)
-}
-
-fn read_lit(fields: Fields<'_>) -> Command
-    requires { Held OfLit (values fields) }
-    ensures { command_line result ≡ (OfLit, values fields.entry) }
-{
-    Command::Lit {
-        value: fields.number(0),
-    }
+    fields
+        .numbers()
+        .map(|number| usize::try_from(number).unwrap_or(0))
+        .collect(heap)
 }
 
 fn read_apply(op: Op, fields: Fields<'_>) -> Command
@@ -59,31 +50,26 @@ fn read_apply(op: Op, fields: Fields<'_>) -> Command
     }
 }
 
-fn read_new(heap: Global, fields: Fields<'_>) -> Result<Command, AllocError>
-    requires { Held OfNew (values fields) }
-    ensures { IfOk result (λ c. command_line c ≡ (OfNew, values fields.entry)) }
+fn read_command(heap: Global, line: Parts<'_>) -> Result<Command, AllocError>
+    requires part { part_of line.word ≡ OfCommand }
+    requires held { Held line.word (values line.fields) }
+    ensures { IfOk result (λ c. command_line c ≡ (line.entry.word, values line.entry.fields)) }
 {
-    let args = entries_of(heap, fields.skip(1))?;
-    Ok(Command::New {
-        function: entry(fields, 0),
-        args,
-    })
-}
-
-fn read_command(heap: Global, word: Word, fields: Fields<'_>) -> Result<Command, AllocError>
-    requires part { part_of word ≡ OfCommand }
-    requires held { Held word (values fields) }
-    ensures { IfOk result (λ c. command_line c ≡ (word, values fields.entry)) }
-{
+    let Parts { word, fields, .. } = line;
     match word {
-        Word::Lit => Ok(read_lit(fields)),
+        Word::Lit => Ok(Command::Lit {
+            value: fields.number(0),
+        }),
         Word::Add => Ok(read_apply(Op::Add, fields)),
         Word::Sub => Ok(read_apply(Op::Sub, fields)),
         Word::Mul => Ok(read_apply(Op::Mul, fields)),
         Word::Div => Ok(read_apply(Op::Div, fields)),
         Word::Min => Ok(read_apply(Op::Min, fields)),
         Word::Max => Ok(read_apply(Op::Max, fields)),
-        Word::New => read_new(heap, fields),
+        Word::New => Ok(Command::New {
+            function: entry(fields, 0),
+            args: entries_of(heap, fields.skip(1))?,
+        }),
         Word::Inp
         | Word::Run
         | Word::Fun
@@ -95,69 +81,32 @@ fn read_command(heap: Global, word: Word, fields: Fields<'_>) -> Result<Command,
     }
 }
 
-fn read_put(fields: Fields<'_>) -> Tail
-    requires { Held OfPut (values fields) }
-    ensures { tail_line result ≡ (OfPut, values fields.entry) }
+fn read_tail(heap: Global, line: Parts<'_>) -> Result<Tail, AllocError>
+    requires part { part_of line.word ≡ OfTail }
+    requires held { Held line.word (values line.fields) }
+    ensures { IfOk result (λ t. tail_line t ≡ (line.entry.word, values line.entry.fields)) }
 {
-    Tail::Put {
-        number: entry(fields, 0),
-    }
-}
-
-fn read_nil(fields: Fields<'_>) -> Tail
-    requires { Held OfNil (values fields) }
-    ensures { tail_line result ≡ (OfNil, values fields.entry) }
-{
-    let _ = fields;
-    Tail::Nil
-}
-
-fn read_con(fields: Fields<'_>) -> Tail
-    requires { Held OfCon (values fields) }
-    ensures { tail_line result ≡ (OfCon, values fields.entry) }
-{
-    Tail::Con {
-        head: entry(fields, 0),
-        tail: entry(fields, 1),
-    }
-}
-
-fn read_get(heap: Global, fields: Fields<'_>) -> Result<Tail, AllocError>
-    requires { Held OfGet (values fields) }
-    ensures { IfOk result (λ t. tail_line t ≡ (OfGet, values fields.entry)) }
-{
-    let args = entries_of(heap, fields.skip(2))?;
-    Ok(Tail::Get {
-        source: entry(fields, 0),
-        function: entry(fields, 1),
-        args,
-    })
-}
-
-fn read_cas(heap: Global, fields: Fields<'_>) -> Result<Tail, AllocError>
-    requires { Held OfCas (values fields) }
-    ensures { IfOk result (λ t. tail_line t ≡ (OfCas, values fields.entry)) }
-{
-    let args = entries_of(heap, fields.skip(3))?;
-    Ok(Tail::Cas {
-        source: entry(fields, 0),
-        empty: entry(fields, 1),
-        cell: entry(fields, 2),
-        args,
-    })
-}
-
-fn read_tail(heap: Global, word: Word, fields: Fields<'_>) -> Result<Tail, AllocError>
-    requires part { part_of word ≡ OfTail }
-    requires held { Held word (values fields) }
-    ensures { IfOk result (λ t. tail_line t ≡ (word, values fields.entry)) }
-{
+    let Parts { word, fields, .. } = line;
     match word {
-        Word::Put => Ok(read_put(fields)),
-        Word::Nil => Ok(read_nil(fields)),
-        Word::Con => Ok(read_con(fields)),
-        Word::Get => read_get(heap, fields),
-        Word::Cas => read_cas(heap, fields),
+        Word::Put => Ok(Tail::Put {
+            number: entry(fields, 0),
+        }),
+        Word::Nil => Ok(Tail::Nil),
+        Word::Con => Ok(Tail::Con {
+            head: entry(fields, 0),
+            tail: entry(fields, 1),
+        }),
+        Word::Get => Ok(Tail::Get {
+            source: entry(fields, 0),
+            function: entry(fields, 1),
+            args: entries_of(heap, fields.skip(2))?,
+        }),
+        Word::Cas => Ok(Tail::Cas {
+            source: entry(fields, 0),
+            empty: entry(fields, 1),
+            cell: entry(fields, 2),
+            args: entries_of(heap, fields.skip(3))?,
+        }),
         Word::Inp
         | Word::Run
         | Word::Fun
@@ -172,25 +121,6 @@ fn read_tail(heap: Global, word: Word, fields: Fields<'_>) -> Result<Tail, Alloc
     }
 }
 
-fn ends_function(word: Word) -> bool
-    ensures { result ≡ is_tail (part_of word) }
-{
-    match word {
-        Word::Put | Word::Nil | Word::Con | Word::Get | Word::Cas => true,
-        Word::Inp
-        | Word::Run
-        | Word::Fun
-        | Word::Lit
-        | Word::Add
-        | Word::Sub
-        | Word::Mul
-        | Word::Div
-        | Word::Min
-        | Word::Max
-        | Word::New => false,
-    }
-}
-
 // The function with this head, from the lines up to its tail.
 fn read_function(
     heap: Global,
@@ -201,13 +131,14 @@ fn read_function(
     requires body { Formed DueBody (left lines.old) }
     ensures { IfOk result (λ f. ((OfFun, values head.entry) ∷ left lines.old ≡ function_lines f ++ left lines.new) × Formed DueHead (left lines.new)) }
 {
-    let result = head.kind(0).unwrap_or(Kind::Number);
+    let result = kind_or_number(head.kind(0));
     let params = kinds_of(heap, head.skip(1))?;
     let mut commands = Vec::new(heap);
-    while let Some(line) = lines.next_line() {
-        let Parts { word, fields, .. } = line.parts();
-        if ends_function(word) {
-            let tail = read_tail(heap, word, fields)?;
+    // A `for` over the lent reader leaves unknown what is left in it, so the proof does not close.
+    while let Some(line) = lines.next() {
+        let line = line.parts();
+        if part_of(line.word) == Part::Tail {
+            let tail = read_tail(heap, line)?;
             return Ok(Function {
                 result,
                 params,
@@ -215,22 +146,20 @@ fn read_function(
                 tail,
             });
         }
-        let command = read_command(heap, word, fields)?;
-        commands.push(command)?;
+        commands.push(read_command(heap, line)?)?;
     }
     unreachable()
 }
 
-fn read_functions(heap: Global, rest: Lines<'_>) -> Result<Vec<Function>, AllocError>
-    requires { Formed DueHead (left rest) }
-    ensures { IfOk result (λ fs. flat_map function_lines fs.items ≡ left rest.entry) }
+fn read_functions(heap: Global, mut lines: Lines<'_>) -> Result<Vec<Function>, AllocError>
+    requires { Formed DueHead (left lines) }
+    ensures { IfOk result (λ fs. flat_map function_lines fs.items ≡ left lines.entry) }
 {
-    let mut lines = rest;
     let mut functions = Vec::new(heap);
-    while let Some(line) = lines.next_line() {
-        let Parts { fields: head, .. } = line.parts();
-        let function = read_function(heap, head, &mut lines)?;
-        functions.push(function)?;
+    // Each turn reads on to the end of a function, so that no `for` can hold the reader.
+    while let Some(line) = lines.next() {
+        let head = line.parts().fields;
+        functions.push(read_function(heap, head, &mut lines)?)?;
     }
     Ok(functions)
 }
@@ -239,10 +168,9 @@ fn read_functions(heap: Global, rest: Lines<'_>) -> Result<Vec<Function>, AllocE
 fn next_fields<'a>(lines: &mut Lines<'a>) -> Fields<'a>
     ensures { Gives (left lines.old) (values result) (left lines.new) }
 {
-    let Some(line) = lines.next_line() else {
-        return Fields::none();
-    };
-    line.parts().fields
+    lines
+        .next()
+        .map_or(Fields::none(), |line| line.parts().fields)
 }
 
 // The program that a text without a fault says.

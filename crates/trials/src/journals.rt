@@ -1,4 +1,5 @@
 use journal::answer::answer;
+use journal::serve::serve;
 use std::test::Fail;
 
 #[test]
@@ -29,6 +30,21 @@ fn journals_are_answered(rt: HostRuntime) -> Result<(), Fail> {
     let unended = answer(heap, b"text\nINP     1     0\nRUN")?;
     assert_eq!(rt;
         unended.as_slice() == b"text: fault 1 line 2 layer 1\n".as_slice(),
+        true
+    );
+    Ok(())
+}
+
+#[test]
+fn a_journal_is_served(rt: HostRuntime) -> Result<(), Fail> {
+    let heap = rt.alloc();
+    let mut input = b"text\n.\nsettle\n".as_slice();
+    let mut output = Vec::from_slice(heap, b"before\n")?;
+    assert_eq!(rt; serve(heap, &mut input, &mut output).is_ok(), true);
+    assert_eq!(rt; input.is_empty(), true);
+    assert_eq!(rt;
+        output.as_slice()
+            == b"before\ntext: fault 1 line 0 layer 1\nsettle: not a call\n".as_slice(),
         true
     );
     Ok(())

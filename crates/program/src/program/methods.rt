@@ -1,6 +1,4 @@
-ghost use Rattle.std.specs.Prelude.{◌≡◌, ◌+◌, ◌≤◌, IfOk, vec_len};
-ghost use Rattle.text.specs.declared.fields.Kind.TheVariants.{ModNumber};
-ghost use Rattle.program.specs.declared.function.Tail.TheVariants.{Put};
+ghost use Rattle.std.specs.Prelude.{◌≡◌, ◌≤◌, IfOk};
 ghost use Rattle.program.specs.Says.{program_lines};
 ghost use Rattle.program.specs.Programs.{function_lines};
 ghost use Rattle.program.specs.View.{viewed};
@@ -12,31 +10,16 @@ use crate::program::Program;
 use std::alloc::{AllocError, Global};
 use text::fields::Kind;
 
-// FUN 2, these commands, PUT 0
-fn puts_register_0(params: Vec<Kind>, commands: Vec<Command>) -> Function
-    ensures head { (result.result ≡ ModNumber) × (result.params ≡ params) }
-    ensures body { (result.commands ≡ commands) × (result.tail ≡ Put 0) }
-{
-    Function {
-        result: Kind::ModNumber,
-        params,
-        commands,
-        tail: Tail::Put { number: 0 },
-    }
-}
-
 // FUN 2; LIT 0; PUT 0
 fn writes_zero(heap: Global) -> Result<Function, AllocError>
     ensures { IfOk result (λ f. function_lines f ≡ zero_lines) }
 {
-    let commands = vec![in heap; Command::Lit { value: 0 }]?;
-    Ok(puts_register_0(Vec::new(heap), commands))
-}
-
-fn steps_of(function: &Function) -> usize
-    ensures { result ≡ vec_len function.now.commands + 1 }
-{
-    function.commands.len() + 1
+    Ok(Function {
+        result: Kind::ModNumber,
+        params: Vec::new(heap),
+        commands: vec![in heap; Command::Lit { value: 0 }]?,
+        tail: Tail::Put { number: 0 },
+    })
 }
 
 impl Program {
@@ -58,10 +41,9 @@ impl Program {
         ensures value { result ≡ steps_in (viewed self.now).functions }
         ensures bound { result ≤ 512 }
     {
-        let mut steps = 0;
-        for function in self.functions.as_slice() {
-            steps += steps_of(function);
-        }
-        steps
+        self.functions
+            .iter()
+            .map(|function| function.commands.len() + 1)
+            .sum()
     }
 }

@@ -1,4 +1,5 @@
-use Rattle.std.proofs.Common.{[], ◌++◌, vec_items, sym, ap, ◌∙◌, subst, arith}
+use Rattle.std.proofs.Common.{[], ◌++◌, vec_items, sym, ap, ◌∙◌, subst}
+use Rattle.std.proofs.lemmas.Bool.{eqb-true}
 use Rattle.std.proofs.lemmas.List.{append-nil, append_assoc, nil_from_length}
 use Rattle.journal.specs.Answers.{Answered, ends}
 use Rattle.journal.proofs.answer.answer.Goals as goal
@@ -17,6 +18,6 @@ loop-rest-smaller c = c.in_ok-rest.ensures.shorter
 
 pub returns : goal.returns
 returns c =
-    let e = nil_from_length c.loop-rest.rest.now (omega arith) in
+    let e = nil_from_length c.loop-rest.rest.now (eqb-true _ _ (sym c.loop-rest-test.ensures)) in
     let a : Answered c.loop-rest.rest.now [] = subst (λ xs. Answered xs []) (sym e) ends in
     subst (Answered c.args.journal.now) (append-nil (vec_items c.loop-rest.out)) (c.loop-rest.invariant [] a)

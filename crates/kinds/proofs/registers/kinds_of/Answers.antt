@@ -1,17 +1,10 @@
-use Rattle.std.proofs.Common.{◌≡◌, ◌<◌, [], ◌∷◌, ◌++◌, length, get_or, take, pos, sym, ap, ◌∙◌, arith}
-use Rattle.std.proofs.lemmas.List.{map_more, take_all}
-use Rattle.text.specs.Values.{values}
+use Rattle.std.proofs.Common.{rules}
+use Rattle.std.proofs.lemmas.Iterator.{YieldsList-from_map, items_from_collect}
+use Rattle.std.proofs.lemmas.Iterator.Consumers.{YieldsList-from_first}
 use Rattle.text.specs.Numbers.{kind_of}
-use Rattle.kinds.specs.Kinds.{kinds_in, or_number}
+use Rattle.text.specs.Values.{values, numbers_left}
+use Rattle.kinds.specs.Kinds.{or_number}
 use Rattle.kinds.proofs.registers.kinds_of.Goals as goal
 
-pub loop-j-preserved : goal.loop-j-preserved
-loop-j-preserved c =
-    let zs = values c.args.fields in
-    let j = c.loop-j.j in
-    let l : j < length zs = omega arith in
-    let x : c.kind_or_number.result ≡ or_number (kind_of (get_or zs j (pos 0))) = c.kind_or_number.ensures ∙ ap or_number c.kind.ensures in
-    c.in_ok-push.ensures.items ∙ ap (λ ks. ks ++ c.kind_or_number.result ∷ []) c.loop-j.invariant ∙ ap (λ y. kinds_in (take j zs) ++ y ∷ []) x ∙ sym (map_more (λ z. or_number (kind_of z)) zs j (pos 0) l)
-
 pub returns : goal.returns
-returns c = let zs = values c.args.fields in c.loop-j.invariant ∙ ap kinds_in (take_all c.loop-j.j zs (omega arith))
+returns c = items_from_collect _ c.collect.ensures.ran (YieldsList-from_map _ (λ z. or_number (kind_of z)) (YieldsList-from_first (λ x. x) numbers_left (values c.args.fields) (cc)) c.map.ensures.closure (λ x r q h. search rules))

@@ -7,7 +7,7 @@ use Rattle.program.specs.Formed.{Formed}
 use Rattle.program.proofs.read.read_functions.Given as goal
 
 abbrev pub invariant-loop-line : goal.invariant-loop-line
-invariant-loop-line l = (flat_map function_lines (vec_items l.functions) ++ left l.lines ≡ left l.rest) × Formed Head (left l.lines)
+invariant-loop-line l = (flat_map function_lines (vec_items l.functions) ++ left l.lines ≡ left l.initial.lines) × Formed Head (left l.lines)
 
 abbrev pub decreases-loop-line : goal.decreases-loop-line
 decreases-loop-line l = length (left l.lines)

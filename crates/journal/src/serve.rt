@@ -1,0 +1,19 @@
+ghost use Rattle.std.specs.Prelude.{OnOk};
+ghost use Rattle.std.specs.Io.KnownBytes.{IsAtEnd};
+ghost use Rattle.journal.specs.Answers.{Served};
+
+use crate::answer::answer;
+use std::alloc::Global;
+use std::io;
+use std::io::{Read, Write};
+
+// Reads a journal to its end, makes its calls, and writes what they answered.
+pub fn serve<R: Read, W: Write>(heap: Global, input: &mut R, output: &mut W) -> io::Result<()>
+    ensures read { OnOk result (IsAtEnd (R.remaining input.new)) }
+    ensures served { OnOk result (Served (R.remaining input.old) (W.contents output.old) (W.contents output.new)) }
+{
+    let mut journal = Vec::new(heap);
+    input.read_to_end(&mut journal)?;
+    let answers = answer(heap, journal.as_slice())?;
+    output.write_all(answers.as_slice())
+}
