@@ -13,9 +13,6 @@ pub trait OrderList {
     /// The capacity.
     ghost size: { Self → ℕ };
 
-    /// Every list is in order.
-    ghost lawful: { (s : Self) → Lawful (size s) (order s) };
-
     /// What a make pins besides, of what it stores: clearing s leaves t.
     ghost clears: { Self → Self → Type 0 };
 
@@ -54,4 +51,7 @@ pub trait OrderList {
     /// The member directly behind m; none where m is last or no member.
     fn next(&self, m: usize) -> Option<usize>
         ensures { NextIs (order self.now) m result };
+
+    /// Every list is in order.
+    ghost lawful: { (s : Self) → Lawful (size s) (order s) };
 }
