@@ -13,9 +13,10 @@ pub trait Labelling {
     /// The members with their tags after n was put behind m.
     ghost after: { List Tagged → ℕ → ℕ → List Tagged };
 
-    /// Puts the first free place behind m.
+    /// Puts the first free place behind m, in the same lent slice.
     fn insert_in(places: &mut Places<'_>, m: usize) -> Result<usize, ListRefusal>
         ensures done { Inserted (length places.old.members.now) (order places.old.members.now) m result (order places.new.members.now) }
         ensures placed { InsertedPlaces after places.old.members.now places.old.free m result places.new.members.now places.new.free }
-        ensures same { length places.new.members.now ≡ length places.old.members.now };
+        ensures same { length places.new.members.now ≡ length places.old.members.now }
+        ensures lent { places.new.members.ghost_name ≡ places.old.members.ghost_name };
 }

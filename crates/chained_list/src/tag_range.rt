@@ -36,6 +36,7 @@ impl Labelling for TagRange {
         ensures done { Inserted (length places.old.members.now) (order places.old.members.now) m result (order places.new.members.now) }
         ensures placed { InsertedPlaces tags_after_insert places.old.members.now places.old.free m result places.new.members.now places.new.free }
         ensures same { length places.new.members.now ≡ length places.old.members.now }
+        ensures lent { places.new.members.ghost_name ≡ places.old.members.ghost_name }
         ensures smallest { SmallestLoose (tagged places.old.members.now) m }
     {
         let n = places.vacancy(m)?;
@@ -149,6 +150,7 @@ fn tag_behind(places: &Places<'_>, m: usize) -> u64
 fn make_room(places: &mut Places<'_>, m: usize)
     requires { has (order places.old.members.now) m ≡ true }
     ensures free { places.new.free ≡ places.old.free }
+    ensures lent { places.new.members.ghost_name ≡ places.old.members.ghost_name }
     ensures made { RoomMade places.old.members.now places.new.members.now m }
 {
     let tag = places.members[m].tag as u64;

@@ -1,4 +1,4 @@
-use Rattle.std.proofs.Common.{◌≡◌, ◌∷◌, sym, ap, ◌∙◌, subst, arith}
+use Rattle.std.proofs.Common.{◌≡◌, ◌∷◌, refl, sym, ap, ◌∙◌, subst, arith}
 use Rattle.chained_list.specs.Chain.{Sound, chain}
 use Rattle.chained_list.proofs.Standing.{each_place}
 use Rattle.chained_list.proofs.Ranks.{strung_order, sound_after, inserted_after, ranked_after, chain_after}
@@ -30,4 +30,5 @@ returns c =
         each_place _ _ (subst (Sound c.renumber.new.places) f (sound_after _ _ _ g _ s _ t r)),
       );
       same = t.size ∙ s.size;
+      lent = refl;
     }

@@ -60,5 +60,6 @@ returns c =
         each_place _ _ (ordered d),
       );
       same = sp.size ∙ made.same.size;
+      lent = c.make_room.ensures.lent;
       smallest = sound_smallest ps c.args.places.now.free m c.args.places.now.sound;
     }
