@@ -31,8 +31,8 @@ fn link(places: &mut [Member], a: usize, b: usize)
     places[b].previous = a as u16;
 }
 
-#[tactic(auto, using(crate::proofs::Chains::m_below, crate::proofs::Chains::h_below, crate::proofs::Chains::x_below))]
 /// Puts the free place n with the tag directly behind m, and tells the place that it linked to.
+#[tactic(auto, using(crate::proofs::Chains::m_below, crate::proofs::Chains::h_below, crate::proofs::Chains::x_below))]
 pub(crate) fn splice(places: &mut [Member], m: usize, n: usize, tag: u32) -> usize
     requires { Room places.old n m }
     ensures free { result ≡ next_of places.old n }
@@ -50,8 +50,8 @@ pub(crate) fn splice(places: &mut [Member], m: usize, n: usize, tag: u32) -> usi
     free
 }
 
-#[tactic(auto, using(crate::proofs::Remove::p_below, crate::proofs::Remove::x_below, crate::proofs::Remove::h_below))]
 /// Takes m out; it then links to the free place h.
+#[tactic(auto, using(crate::proofs::Remove::p_below, crate::proofs::Remove::x_below, crate::proofs::Remove::h_below))]
 pub(crate) fn unlink(places: &mut [Member], m: usize, h: usize)
     requires { Ready places.old h m }
     ensures { Unlinked places.old places.new (previous_of places.old m) m h }

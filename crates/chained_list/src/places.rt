@@ -47,8 +47,8 @@ impl Places<'_> {
         Ok(self.free)
     }
 
-    #[tactic(auto, using(crate::proofs::Looks::no_left, crate::proofs::Looks::no_right, crate::proofs::Looks::by_tags))]
     /// Whether both stand and a has the lower tag.
+    #[tactic(auto, using(crate::proofs::Looks::no_left, crate::proofs::Looks::no_right, crate::proofs::Looks::by_tags))]
     pub(crate) fn before(&self, a: usize, b: usize) -> bool
         ensures { result ≡ earlier (order self.now.members.now) a b }
     {
@@ -58,8 +58,8 @@ impl Places<'_> {
         }
     }
 
-    #[tactic(auto, using(crate::proofs::Looks::next_none))]
     /// What m links to.
+    #[tactic(auto, using(crate::proofs::Looks::next_none))]
     pub(crate) fn next(&self, m: usize) -> Option<usize>
         ensures { NextIs (order self.now.members.now) m result }
     {

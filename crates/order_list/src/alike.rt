@@ -11,9 +11,9 @@ pub struct Twin {
     pub right: usize,
 }
 
-#[tactic(auto, using(crate::proofs::Twins::agreed_then, crate::proofs::Twins::together_alike))]
 /// Whether two lists answer alike, each by its own numbers: `before` of x and y, and whether a member stands behind x.
 /// Lists that were given the same calls, and answered those alike, do; nothing tells them apart.
+#[tactic(auto, using(crate::proofs::Twins::agreed_then, crate::proofs::Twins::together_alike))]
 pub fn agree<A: OrderList, B: OrderList>(one: &A, other: &B, x: Twin, y: Twin) -> bool
     ensures answer { result ≡ agrees (A.OrderList.order one.now) (B.OrderList.order other.now) x y }
     ensures agreed { Agreed (A.OrderList.size one.now) (B.OrderList.size other.now) (A.OrderList.order one.now) (B.OrderList.order other.now) x y result }

@@ -25,6 +25,7 @@ pub struct Pair<'a, 'b, A, B> {
 impl<A: OrderList, B: OrderList> Pair<'_, '_, A, B> {
     /// Inserts behind one member in both lists, and tells the new member's two numbers. Lists of one capacity that were given the same
     /// calls do not differ, and go on alike.
+    #[tactic(auto, using(crate::proofs::Stepping::both_done))]
     pub fn insert_in_both(&mut self, m: Twin) -> Result<Twin, NotBoth>
         ensures lists { (self.new.one.ghost_name ≡ self.old.one.ghost_name) × (self.new.other.ghost_name ≡ self.old.other.ghost_name) }
         ensures sizes { (A.OrderList.size self.new.one.now ≡ A.OrderList.size self.old.one.now) × (B.OrderList.size self.new.other.now ≡ B.OrderList.size self.old.other.now) }
