@@ -1,4 +1,5 @@
 use crate::member::Member;
+use crate::places::Places;
 use order_list::refusal::ListRefusal;
 use std::marker::PhantomData;
 
@@ -8,8 +9,7 @@ pub mod ordered;
 /// are chained from `free` on, and tags that rise along the list tell which of two members is earlier.
 #[derive(Drop)]
 pub struct Chained<'a, L> {
-    places: &'a mut [Member],
-    free: usize,
+    places: Places<'a>,
     labels: PhantomData<L>,
 }
 
