@@ -1,15 +1,15 @@
 -- Lists in order, at most one element to a place.
-use Rattle.std.proofs.Common.{◌≡◌, ℕ, zero, suc, ◌<◌, Bool, true, false, cond, ◌⊎◌, List, [], ◌∷◌, length, get_or, take, set, sum_by, sym, refl, ap, ◌∙◌, subst, inl, inr, ⊎_elim, arith}
+use Rattle.std.proofs.Common.{◌≡◌, ℕ, zero, suc, ◌<◌, Bool, true, false, cond, ◌⊎◌, List, [], ◌∷◌, All, length, get_or, set, sum_by, sym, refl, ap, ◌∙◌, subst, inl, inr, ⊎_elim, arith}
 use Rattle.std.specs.List.Sorted.{IsPermutation}
 use Rattle.std.specs.List.{AllByRecursion}
+use Rattle.std.proofs.lemmas.List.Elements.{All-tail}
 use Rattle.std.proofs.lemmas.List.{get_or-set_same, get_or-set_other, length-set}
-use Rattle.std.proofs.lemmas.List.Sorted.{sum_by-IsPermutation, IsPermutation-refl, IsPermutation-sym, IsPermutation-trans, IsPermutation-cons, IsPermutation-swap}
+use Rattle.std.proofs.lemmas.List.Sorted.{All-permutation, sum_by-IsPermutation, IsPermutation-refl, IsPermutation-sym, IsPermutation-trans, IsPermutation-cons, IsPermutation-swap}
 use Rattle.std.proofs.ByRecursion.{all_shuffled}
 use Rattle.std.proofs.lemmas.List.Sums.{sum_by-cons, sum_by-set}
 use Rattle.std.proofs.lemmas.Bool.{cases_eq, cases_Bool, both_ways, false≢true, true≢false}
 use Rattle.queue.specs.Heaps.{Heaped, First}
 use Rattle.queue.specs.Listing.{same, placed, listed, has_place, Once, Ascending}
-use Rattle.queue.proofs.Sifting.{belong_all, belong_shuffled}
 
 -- 1 where both have the same place
 abbrev one : {X : Type 0} → (X → X → Bool) → X → X → ℕ
@@ -23,6 +23,10 @@ In (y ∷ ys) z = (y ≡ z) ⊎ In ys z
 all_map : {X : Type 0} (P Q : X → Type 0) (f : (z : X) → P z → Q z) (xs : List X) → AllByRecursion P xs → AllByRecursion Q xs
 all_map P Q f [] h = tt
 all_map P Q f (x ∷ xs) h = (f x h.0, all_map P Q f xs h.1)
+
+by_recursion : {X : Type 0} (P : X → Type 0) (xs : List X) → All P xs → AllByRecursion P xs
+by_recursion P [] h = tt
+by_recursion P (x ∷ xs) h = (h 0 x (omega arith), by_recursion P xs (All-tail P x xs h))
 
 all_at : {X : Type 0} (P : X → Type 0) (xs : List X) (z : X) → AllByRecursion P xs → In xs z → P z
 all_at P [] z a h = absurd h
@@ -49,12 +53,6 @@ pull d (x ∷ xs) (suc k) l =
       IsPermutation-trans (x ∷ xs) (x ∷ get_or xs k d ∷ p.0) (get_or xs k d ∷ x ∷ p.0) (IsPermutation-cons x xs (get_or xs k d ∷ p.0) p.1) (two x (get_or xs k d) p.0),
       λ b. IsPermutation-trans (x ∷ set xs k b) (x ∷ b ∷ p.0) (b ∷ x ∷ p.0) (IsPermutation-cons x (set xs k b) (b ∷ p.0) (p.2 b)) (two x b p.0),
     )
-
-pub take_set_within : {X : Type 0} (n : ℕ) (xs : List X) (k : ℕ) (b : X) → k < n → take n (set xs k b) ≡ set (take n xs) k b
-take_set_within zero xs k b l = absurd (omega arith)
-take_set_within (suc n) [] k b l = refl
-take_set_within (suc n) (x ∷ xs) zero b l = refl
-take_set_within (suc n) (x ∷ xs) (suc k) b l = ap (λ m. x ∷ m) (take_set_within n xs k b (omega arith))
 
 swapped : (p q r : Bool) → cond p true (cond q true r) ≡ cond q true (cond p true r)
 swapped true true r = refl
@@ -288,7 +286,7 @@ module _ {X : Type 0} (before : X → X → Bool) (oneway : (a b : X) → before
   pub first_listed : (xs : List X) (x : X) (r : List X) → IsPermutation xs (x ∷ r) → First before x xs → Once before xs → listed before xs ≡ x ∷ listed before r
   first_listed xs x r s f o =
       let o' = once_shuffled xs (x ∷ r) s o in
-      let a = belong_all (λ z. before z x ≡ false) (x ∷ r) (belong_shuffled (λ z. before z x ≡ false) xs (x ∷ r) s f) in
+      let a = by_recursion (λ z. before z x ≡ false) (x ∷ r) (All-permutation (λ z. before z x ≡ false) xs (x ∷ r) s f) in
       same_listed xs (x ∷ r) s o ∙ placed_first x (listed before r) (all_listed (λ z. before x z ≡ true) r (ahead x r a.1 (once_none x r o')))
 
   placed_over : (y b : X) → same before y b ≡ true → (m : List X) → placed before b (placed before y m) ≡ placed before b m

@@ -1,11 +1,11 @@
 -- Queued reads stay a heap where the list gets one member more.
-use Rattle.std.proofs.Common.{◌≡◌, ℕ, true, false, cond, eqb, List, [], ◌∷◌, Ok, Err, Result, sym, refl, ◌∙◌, subst, inl, inr, arith}
+use Rattle.std.proofs.Common.{◌≡◌, ℕ, true, false, cond, eqb, List, [], All, ◌∷◌, Ok, Err, Result, sym, refl, ◌∙◌, subst, inl, inr, arith}
 use Rattle.std.proofs.lemmas.Bool.Decides.{eqb_tells}
 use Rattle.std.proofs.lemmas.Bool.{both_ways}
 use Rattle.order_list.specs.declared.refusal.ListRefusal.{ListRefusal}
 use Rattle.order_list.specs.Order.{has, earlier, insert_after, Inserted}
 use Rattle.queue.specs.declared.stale.StaleRead.{StaleRead}
-use Rattle.queue.specs.Heaps.{Belong, Heaped}
+use Rattle.queue.specs.Heaps.{Heaped}
 use Rattle.queue.specs.Stale.{Stands, stale_before}
 
 -- a member is not a number that is no member
@@ -37,9 +37,9 @@ still_earlier c xs m (Ok n) ys h a b s t = subst (λ (l : List ℕ). earlier l a
 still_earlier c xs m (Err e) ys h a b s t = subst (λ (l : List ℕ). earlier l a b ≡ earlier xs a b) (sym h.1) refl
 
 -- queued reads that stood still stand
-pub still_stand : (c : ℕ) (xs : List ℕ) (m : ℕ) (r : Result ℕ ListRefusal) (ys : List ℕ) → Inserted c xs m r ys → (reads : List StaleRead) → Belong (Stands xs) reads → Belong (Stands ys) reads
+pub still_stand : (c : ℕ) (xs : List ℕ) (m : ℕ) (r : Result ℕ ListRefusal) (ys : List ℕ) → Inserted c xs m r ys → (reads : List StaleRead) → All (Stands xs) reads → All (Stands ys) reads
 still_stand c xs m r ys h reads all k d l = still_has c xs m r ys h _ (all k d l)
 
 -- and they are a heap still
-pub still_heaped : (c : ℕ) (xs : List ℕ) (m : ℕ) (r : Result ℕ ListRefusal) (ys : List ℕ) → Inserted c xs m r ys → (reads : List StaleRead) → Belong (Stands xs) reads → Heaped (stale_before xs) reads → Heaped (stale_before ys) reads
+pub still_heaped : (c : ℕ) (xs : List ℕ) (m : ℕ) (r : Result ℕ ListRefusal) (ys : List ℕ) → Inserted c xs m r ys → (reads : List StaleRead) → All (Stands xs) reads → Heaped (stale_before xs) reads → Heaped (stale_before ys) reads
 still_heaped c xs m r ys h reads all heap p k d a b l = still_earlier c xs m r ys h _ _ (all k d l) (all p d (omega arith)) ∙ heap p k d a b l

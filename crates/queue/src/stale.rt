@@ -23,13 +23,14 @@ impl<'a, O: OrderList> Order for StaleOrder<'a, O> {
 
     ghost belongs = { λ s x. O.OrderList.sound s.list.now × Stands (O.OrderList.order s.list.now) x };
 
-    ghost precedes = { λ s a b. stale_before (O.OrderList.order s.list.now) a b };
-
-    ghost oneway = { λ s a b p _. stale_oneway (O.OrderList.size s.list.now) (O.OrderList.order s.list.now) a b (O.OrderList.lawful s.list.now p.0) };
-
-    ghost chain = { λ s a b c p q r. stale_chain (O.OrderList.size s.list.now) (O.OrderList.order s.list.now) a b c (O.OrderList.lawful s.list.now p.0) p.1 q.1 r.1 };
+    ghost precedes = { λ s. stale_before (O.OrderList.order s.list.now) };
 
     fn before(&self, a: &StaleRead, b: &StaleRead) -> bool {
         self.list.before(a.start, b.start)
     }
+
+    ghost lawful = { λ s. record {
+      oneway = λ a b p _. stale_oneway (O.OrderList.size s.list.now) (O.OrderList.order s.list.now) a b (O.OrderList.lawful s.list.now p.0);
+      chain = λ a b c p q r. stale_chain (O.OrderList.size s.list.now) (O.OrderList.order s.list.now) a b c (O.OrderList.lawful s.list.now p.0) p.1 q.1 r.1;
+    } };
 }
