@@ -3,8 +3,9 @@ use Rattle.std.specs.Prelude.{◌≡◌, ℕ, Bool, true, false, List, [], ◌�
 use Rattle.std.proofs.Common.{inl, inr}
 use Rattle.std.proofs.lemmas.Bool.Decides.{eqb_tells}
 use Rattle.std.proofs.lemmas.Bool.{both_ways}
-use Rattle.order_list.specs.Order.{has, Apart, earlier, Lawful}
+use Rattle.order_list.specs.Order.{has, Apart, earlier, Lawful as InOrder}
 use Rattle.order_list.specs.Laws.{none_earlier, oneway_earlier}
+use Rattle.queue.specs.Order.{Lawful}
 use Rattle.queue.specs.declared.stale.StaleRead.{StaleRead}
 
 -- the start stamp of the read is a member
@@ -16,7 +17,7 @@ abbrev pub stale_before : List ℕ → StaleRead → StaleRead → Bool
 stale_before xs a b = earlier xs a.start b.start
 
 -- never both ways
-pub stale_oneway : (n : ℕ) (xs : List ℕ) (a b : StaleRead) → Lawful n xs → stale_before xs a b ≡ true → stale_before xs b a ≡ false
+pub stale_oneway : (n : ℕ) (xs : List ℕ) (a b : StaleRead) → InOrder n xs → stale_before xs a b ≡ true → stale_before xs b a ≡ false
 stale_oneway n xs a b l e = oneway_earlier xs a.start b.start l.apart e
 
 -- a member that is not the first is behind it
@@ -44,5 +45,8 @@ chain_earlier (x ∷ xs) a b c ap ha hb hc p q =
     ]
 
 -- where b is not before a, nor c before b, c is not before a
-pub stale_chain : (n : ℕ) (xs : List ℕ) (a b c : StaleRead) → Lawful n xs → Stands xs a → Stands xs b → Stands xs c → stale_before xs b a ≡ false → stale_before xs c b ≡ false → stale_before xs c a ≡ false
+pub stale_chain : (n : ℕ) (xs : List ℕ) (a b c : StaleRead) → InOrder n xs → Stands xs a → Stands xs b → Stands xs c → stale_before xs b a ≡ false → stale_before xs c b ≡ false → stale_before xs c a ≡ false
 stale_chain n xs a b c l ha hb hc p q = chain_earlier xs a.start b.start c.start l.apart ha hb hc p q
+
+pub stale_lawful : (n : ℕ) (xs : List ℕ) → InOrder n xs → Lawful (Stands xs) (stale_before xs)
+stale_lawful n xs l = record { oneway = λ a b _ _. stale_oneway n xs a b l; chain = λ a b c. stale_chain n xs a b c l }
