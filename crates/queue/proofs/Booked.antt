@@ -1,5 +1,5 @@
 -- What keeping and taking a booking does to the list that is meant.
-use Rattle.std.proofs.Common.{◌≡◌, ℕ, ◌+◌, ◌-◌, ◌≤◌, min, Bool, true, false, List, [], ◌∷◌, length, get_or, take, set, position, Some, None, Ok, Err, Option, MatchOption, sym, refl, ap, ◌∙◌, inl, inr, arith, lt-ltb, le-ltb, length-set}
+use Rattle.std.proofs.Common.{◌≡◌, ℕ, ◌+◌, ◌-◌, ◌≤◌, min, Bool, true, false, List, [], ◌∷◌, length, get_or, take, set, position, Some, None, Ok, Err, Option, MatchOption, sym, refl, ap, ◌∙◌, inl, inr, arith, lt-ltb, le-ltb}
 use Rattle.std.specs.List.{AllByRecursion, position_from}
 use Rattle.std.specs.List.Sorted.{IsPermutation}
 use Rattle.std.specs.Bool.{then_some}
@@ -11,6 +11,7 @@ use Rattle.std.proofs.lemmas.List.{length-take-le}
 use Rattle.std.proofs.lemmas.List.Quantifiers.{position-Some}
 use Rattle.queue.specs.declared.booking.Booking.{Booking}
 use Rattle.queue.specs.declared.bookings.Bookings.{Bookings}
+use Rattle.queue.specs.declared.bookings.TheConstants.{MOST_BOOKINGS}
 use Rattle.queue.specs.declared.refusal.QueueRefusal.{QueueRefusal}
 use Rattle.queue.specs.declared.refusal.BookingRefusal.TheVariants.{Full}
 use Rattle.queue.specs.Heaps.{Heaped, First, Puts, Takes}
@@ -36,13 +37,13 @@ none_has b xs e = none_from b 0 xs (sym (position_from-zero (λ p. is_same_place
 
 -- the first m of ys wait where s kept b
 pub record Keeps (s : Bookings) (b : Booking) (ys : List Booking) (m : ℕ) : Type 0 where
-  pub sized : (length ys ≡ 64) × (m ≤ 64)
+  pub sized : m ≤ MOST_BOOKINGS
   pub heaped : Heaped sooner (take m ys)
   pub once : Once sooner (take m ys)
   pub unrefused : book_refusal (waiting s) b ≡ None
   pub is_placed : listed sooner (take m ys) ≡ placed sooner b (waiting s)
 
-module _ (s : Bookings) (b : Booking) where
+module _ (s : Bookings) (whole : length s.places ≡ MOST_BOOKINGS) (b : Booking) where
   front_long : length (take s.count s.places) ≡ s.count
   front_long = length-take-le s.count s.places (omega arith)
 
@@ -56,7 +57,7 @@ module _ (s : Bookings) (b : Booking) where
       let e = has_listed sooner sooner_oneway sooner_chain (take s.count s.places) b ∙ some_place sooner sooner_oneway sooner_chain (take s.count s.places) b k b within (at b) in
       let is = take-set-lt s.count s.places k b (omega (arith, within, front_long)) in
       record {
-        sized = (length-set s.places k b ∙ s.sized.0, s.sized.1);
+        sized = s.sized;
         heaped = rw is (heaped_set sooner sooner_oneway sooner_chain (take s.count s.places) k b within at s.heaped);
         once = rw is (once_set sooner sooner_oneway sooner_chain (take s.count s.places) k b b within (at b) s.once);
         unrefused = rw e refl;
@@ -67,12 +68,12 @@ module _ (s : Bookings) (b : Booking) where
     unlisted : has_place sooner (waiting s) b ≡ false
     unlisted = has_listed sooner sooner_oneway sooner_chain (take s.count s.places) b ∙ none_has b (take s.count s.places) (sym none)
 
-    pub added : length ys ≡ 64 → (m : ℕ) → Puts (λ _. Unit {0}) sooner s.count b s.places (Ok m) ys → Keeps s b ys m
-    added long m p =
-        let l = lt-ltb s.count 64 (omega (arith, p.fits.0 refl)) in
+    pub added : (m : ℕ) → Puts (λ _. Unit {0}) sooner s.count b s.places (Ok m) ys → Keeps s b ys m
+    added m p =
+        let l = lt-ltb s.count MOST_BOOKINGS (omega (arith, p.fits.0 refl)) in
         let more = once_more sooner sooner_oneway sooner_chain b (take s.count s.places) (none_has b (take s.count s.places) (sym none)) s.once in
         rw p.items.0 (record {
-          sized = (long, omega (arith, p.fits.0 refl));
+          sized = omega (arith, p.fits.0 refl);
           heaped = p.heaped (λ k d f. tt) s.heaped;
           once = once_shuffled sooner sooner_oneway sooner_chain (b ∷ take s.count s.places) (take (s.count + 1) ys) p.items.1 more;
           unrefused = rw (unlisted, waiting_long, l) refl;
@@ -81,18 +82,18 @@ module _ (s : Bookings) (b : Booking) where
 
     pub refused : (e : QueueRefusal) → Puts (λ _. Unit {0}) sooner s.count b s.places (Err e) ys → book_refusal (waiting s) b ≡ Some Full
     refused e p =
-        let l = le-ltb s.count 64 (elim (leb_tells 64 s.count) [ inl q ↦ q.1 | inr q ↦ absurd (false≢true (p.fits.1 (omega (arith, q.1)))) ]) in
+        let l = le-ltb s.count MOST_BOOKINGS (elim (leb_tells MOST_BOOKINGS s.count) [ inl q ↦ q.1 | inr q ↦ absurd (false≢true (p.fits.1 (omega (arith, q.1)))) ]) in
         rw (unlisted, waiting_long, l) refl
 
 -- the first m of ys wait where s answered whether one is due by d
 pub record TakesDue (s : Bookings) (d : ℕ) (answer : Option Booking) (ys : List Booking) (m : ℕ) : Type 0 where
-  pub sized : (length ys ≡ 64) × (m ≤ 64)
+  pub sized : m ≤ MOST_BOOKINGS
   pub heaped : Heaped sooner (take m ys)
   pub once : Once sooner (take m ys)
   pub is_first : answer ≡ first_due (waiting s) d
   pub is_left : listed sooner (take m ys) ≡ after_due (waiting s) d
 
-module _ (s : Bookings) (d : ℕ) (ys : List Booking) where
+module _ (s : Bookings) (whole : length s.places ≡ MOST_BOOKINGS) (d : ℕ) (ys : List Booking) where
   nothing : Takes (λ _. Unit {0}) sooner (min s.count (length s.places)) s.places None ys → TakesDue s d None s.places s.count
   nothing t =
       let e : s.count ≡ 0 = elim (leb_tells 1 s.count) [ inl q ↦ absurd (false≢true (t.some.1 (omega (arith, q.1)))) | inr q ↦ omega (arith, q.1) ] in
@@ -112,9 +113,9 @@ module _ (s : Bookings) (d : ℕ) (ys : List Booking) where
     is_waiting : waiting s ≡ x ∷ listed sooner (take (s.count - 1) ys)
     is_waiting = first_listed sooner sooner_oneway sooner_chain (take s.count s.places) x (take (s.count - 1) ys) split first.0 s.once
 
-    taken : length ys ≡ 64 → due x d ≡ true → TakesDue s d (Some x) ys (s.count - 1)
-    taken long e = record {
-      sized = (long, omega arith);
+    taken : due x d ≡ true → TakesDue s d (Some x) ys (s.count - 1)
+    taken e = record {
+      sized = omega arith;
       heaped = first.1;
       once = once_behind sooner sooner_oneway sooner_chain x (take (s.count - 1) ys) (once_shuffled sooner sooner_oneway sooner_chain (take s.count s.places) (x ∷ take (s.count - 1) ys) split s.once);
       is_first = rw (is_waiting, e) refl;
@@ -125,10 +126,10 @@ module _ (s : Bookings) (d : ℕ) (ys : List Booking) where
     not_taken e = record { sized = s.sized; heaped = s.heaped; once = s.once; is_first = rw (is_waiting, e) refl; is_left = rw (is_waiting, e) refl }
 
   -- what is taken, if it passes the test whether it is due
-  pub due_answer : {Told : Booking → Bool → Type 0} → length ys ≡ 64 → (o r : Option Booking) → Takes (λ _. Unit {0}) sooner (min s.count (length s.places)) s.places o ys → MatchOption o (r ≡ None) (λ x. (b : Bool) × Told x b × (r ≡ then_some b x)) → ((x : Booking) (b : Bool) → Told x b → b ≡ due x d) → MatchOption r (TakesDue s d None s.places s.count) (λ x. TakesDue s d (Some x) ys (s.count - 1))
-  due_answer long None r t m f = rw m (nothing t)
-  due_answer long (Some x) r t m f = elim (cases_Bool (due x d)) [
-    | inl e ↦ rw (m.2, f x m.0 m.1, e) (taken x t long e)
+  pub due_answer : {Told : Booking → Bool → Type 0} → (o r : Option Booking) → Takes (λ _. Unit {0}) sooner (min s.count (length s.places)) s.places o ys → MatchOption o (r ≡ None) (λ x. (b : Bool) × Told x b × (r ≡ then_some b x)) → ((x : Booking) (b : Bool) → Told x b → b ≡ due x d) → MatchOption r (TakesDue s d None s.places s.count) (λ x. TakesDue s d (Some x) ys (s.count - 1))
+  due_answer None r t m f = rw m (nothing t)
+  due_answer (Some x) r t m f = elim (cases_Bool (due x d)) [
+    | inl e ↦ rw (m.2, f x m.0 m.1, e) (taken x t e)
     | inr e ↦ rw (m.2, f x m.0 m.1, e) (not_taken x t e)
   ]
 

@@ -1,9 +1,9 @@
 // The bookings that wait.
-ghost use Rattle.std.specs.Prelude.{◌≡◌, ◌≤◌, [], length, take, position};
+ghost use Rattle.std.specs.Prelude.{◌≡◌, ◌≤◌, [], take, position};
 ghost use Rattle.std.proofs.Props.{props};
 ghost use Rattle.queue.specs.Heaps.{Heaped};
 ghost use Rattle.queue.specs.Listing.{Once};
-ghost use Rattle.queue.specs.Refusals.{most_bookings};
+ghost use Rattle.queue.specs.declared.bookings.TheConstants.{MOST_BOOKINGS};
 ghost use Rattle.queue.specs.Sooner.{sooner, is_same_place};
 
 use crate::booking::{Booking, BookingOrder};
@@ -27,7 +27,7 @@ pub struct Bookings {
     // A queue takes its places as a slice and its count beside it.
     places: [Booking; MOST_BOOKINGS],
     count: usize,
-    ghost sized: { (length places ≡ most_bookings) × (count ≤ most_bookings) },
+    ghost sized: { count ≤ MOST_BOOKINGS },
     ghost heaped: { Heaped sooner (take count places) } by { Prim.hlevel props },
     ghost once: { Once sooner (take count places) },
 }

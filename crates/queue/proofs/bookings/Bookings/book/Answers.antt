@@ -8,9 +8,9 @@ pub invariant_of-self : goal.invariant_of-self
 invariant_of-self c =
     let s = c.args.self.now in
     elim c.match-place_of.branch [
-      | in-Some w ↦ let k = replaced s c.args.b w.in-Some.k w.in-Some.ensures in
+      | in-Some w ↦ let k = replaced s (omega arith) c.args.b w.in-Some.k w.in-Some.ensures in
           rw (w.places-is, w.count-is) (record { sized = k.sized; heaped = k.heaped; once = k.once })
-      | in-None+in_ok-count-in-None w ↦ let k = added s c.args.b w.in-None.ensures w.put.new.heap (omega arith) w.in_ok-count-in-None.count w.in_ok-count-in-None.ensures in
+      | in-None+in_ok-count-in-None w ↦ let k = added s (omega arith) c.args.b w.in-None.ensures w.put.new.heap w.in_ok-count-in-None.count w.in_ok-count-in-None.ensures in
           rw (w.places-is, w.count-is) (record { sized = k.sized; heaped = k.heaped; once = k.once })
     ]
 
@@ -18,13 +18,13 @@ pub returns : goal.returns
 returns c =
     let s = c.args.self.now in
     elim c.match-place_of.branch [
-      | in-Some w ↦ let k = replaced s c.args.b w.in-Some.k w.in-Some.ensures in
+      | in-Some w ↦ let k = replaced s (omega arith) c.args.b w.in-Some.k w.in-Some.ensures in
           rw (w.places-is, w.count-is) (k.unrefused, k.is_placed)
-      | in-None+in_ok-count-in-None w ↦ let k = added s c.args.b w.in-None.ensures w.put.new.heap (omega arith) w.in_ok-count-in-None.count w.in_ok-count-in-None.ensures in
+      | in-None+in_ok-count-in-None w ↦ let k = added s (omega arith) c.args.b w.in-None.ensures w.put.new.heap w.in_ok-count-in-None.count w.in_ok-count-in-None.ensures in
           rw (w.places-is, w.count-is) (k.unrefused, k.is_placed)
     ]
 
 pub returns-in_err-count-in-None : goal.returns-in_err-count-in-None
 returns-in_err-count-in-None c =
     let p = err_from_is_err_and c.from_residual.result c.from_residual.ensures.1 in
-    rw (p.1, p.2) (refused c.args.self.now c.args.b c.in-None.ensures c.put.new.heap c.in_err-count-in-None.field-0.0 c.in_err-count-in-None.ensures, refl)
+    rw (p.1, p.2) (refused c.args.self.now (omega arith) c.args.b c.in-None.ensures c.put.new.heap c.in_err-count-in-None.field-0.0 c.in_err-count-in-None.ensures, refl)
