@@ -16,7 +16,7 @@ use Rattle.queue.specs.declared.refusal.QueueRefusal.{QueueRefusal}
 use Rattle.queue.specs.declared.refusal.BookingRefusal.TheVariants.{Full}
 use Rattle.queue.specs.Heaps.{Heaped, First, Puts, Takes}
 use Rattle.queue.specs.Listing.{same, placed, listed, has_place, Once, Ascending}
-use Rattle.queue.specs.Sooner.{sooner, is_same_place, due, sooner_oneway, sooner_chain}
+use Rattle.queue.specs.Sooner.{sooner, is_same_place, due, sooner_lawful}
 use Rattle.queue.specs.Waiting.{waiting, book_refusal, first_due, after_due}
 use Rattle.queue.proofs.Listings.{ascending_listed, has_listed, once_behind, once_more, once_shuffled, once_set, same_listed, length_listed, first_listed, set_listed, heaped_set, some_place}
 
@@ -48,36 +48,36 @@ module _ (s : Bookings) (whole : length s.places ≡ MOST_BOOKINGS) (b : Booking
   front_long = length-take-le s.count s.places (omega arith)
 
   waiting_long : length (waiting s) ≡ s.count
-  waiting_long = length_listed sooner sooner_oneway sooner_chain (take s.count s.places) s.once ∙ front_long
+  waiting_long = length_listed sooner sooner_lawful (take s.count s.places) s.once ∙ front_long
 
   pub replaced : (k : ℕ) → Some k ≡ position (λ p. is_same_place p b) (take s.count s.places) → Keeps s b (set s.places k b) s.count
   replaced k found =
       let at : (d : Booking) → same sooner (get_or (take s.count s.places) k d) b ≡ true = λ d. same_place (get_or (take s.count s.places) k d) b ∙ (position-Some (λ p. is_same_place p b) (take s.count s.places) k d (sym found)).1 in
       let within = (position-Some (λ p. is_same_place p b) (take s.count s.places) k b (sym found)).0 in
-      let e = has_listed sooner sooner_oneway sooner_chain (take s.count s.places) b ∙ some_place sooner sooner_oneway sooner_chain (take s.count s.places) b k b within (at b) in
+      let e = has_listed sooner sooner_lawful (take s.count s.places) b ∙ some_place sooner sooner_lawful (take s.count s.places) b k b within (at b) in
       let is = take-set-lt s.count s.places k b (omega (arith, within, front_long)) in
       record {
         sized = s.sized;
-        heaped = rw is (heaped_set sooner sooner_oneway sooner_chain (take s.count s.places) k b within at s.heaped);
-        once = rw is (once_set sooner sooner_oneway sooner_chain (take s.count s.places) k b b within (at b) s.once);
+        heaped = rw is (heaped_set sooner sooner_lawful (take s.count s.places) k b within at s.heaped);
+        once = rw is (once_set sooner sooner_lawful (take s.count s.places) k b b within (at b) s.once);
         unrefused = rw e refl;
-        is_placed = ap (listed sooner) is ∙ set_listed sooner sooner_oneway sooner_chain (take s.count s.places) k b b within (at b) s.once;
+        is_placed = ap (listed sooner) is ∙ set_listed sooner sooner_lawful (take s.count s.places) k b b within (at b) s.once;
       }
 
   module _ (none : None ≡ position (λ p. is_same_place p b) (take s.count s.places)) (ys : List Booking) where
     unlisted : has_place sooner (waiting s) b ≡ false
-    unlisted = has_listed sooner sooner_oneway sooner_chain (take s.count s.places) b ∙ none_has b (take s.count s.places) (sym none)
+    unlisted = has_listed sooner sooner_lawful (take s.count s.places) b ∙ none_has b (take s.count s.places) (sym none)
 
     pub added : (m : ℕ) → Puts (λ _. Unit {0}) sooner s.count b s.places (Ok m) ys → Keeps s b ys m
     added m p =
         let l = lt-ltb s.count MOST_BOOKINGS (omega (arith, p.fits.0 refl)) in
-        let more = once_more sooner sooner_oneway sooner_chain b (take s.count s.places) (none_has b (take s.count s.places) (sym none)) s.once in
+        let more = once_more sooner sooner_lawful b (take s.count s.places) (none_has b (take s.count s.places) (sym none)) s.once in
         rw p.items.0 (record {
           sized = omega (arith, p.fits.0 refl);
           heaped = p.heaped (λ k d f. tt) s.heaped;
-          once = once_shuffled sooner sooner_oneway sooner_chain (b ∷ take s.count s.places) (take (s.count + 1) ys) p.items.1 more;
+          once = once_shuffled sooner sooner_lawful (b ∷ take s.count s.places) (take (s.count + 1) ys) p.items.1 more;
           unrefused = rw (unlisted, waiting_long, l) refl;
-          is_placed = sym (same_listed sooner sooner_oneway sooner_chain (b ∷ take s.count s.places) (take (s.count + 1) ys) p.items.1 more);
+          is_placed = sym (same_listed sooner sooner_lawful (b ∷ take s.count s.places) (take (s.count + 1) ys) p.items.1 more);
         })
 
     pub refused : (e : QueueRefusal) → Puts (λ _. Unit {0}) sooner s.count b s.places (Err e) ys → book_refusal (waiting s) b ≡ Some Full
@@ -111,13 +111,13 @@ module _ (s : Bookings) (whole : length s.places ≡ MOST_BOOKINGS) (d : ℕ) (y
     first = (rw all at t.first) (λ k e f. tt) s.heaped
 
     is_waiting : waiting s ≡ x ∷ listed sooner (take (s.count - 1) ys)
-    is_waiting = first_listed sooner sooner_oneway sooner_chain (take s.count s.places) x (take (s.count - 1) ys) split first.0 s.once
+    is_waiting = first_listed sooner sooner_lawful (take s.count s.places) x (take (s.count - 1) ys) split first.0 s.once
 
     taken : due x d ≡ true → TakesDue s d (Some x) ys (s.count - 1)
     taken e = record {
       sized = omega arith;
       heaped = first.1;
-      once = once_behind sooner sooner_oneway sooner_chain x (take (s.count - 1) ys) (once_shuffled sooner sooner_oneway sooner_chain (take s.count s.places) (x ∷ take (s.count - 1) ys) split s.once);
+      once = once_behind sooner sooner_lawful x (take (s.count - 1) ys) (once_shuffled sooner sooner_lawful (take s.count s.places) (x ∷ take (s.count - 1) ys) split s.once);
       is_first = rw (is_waiting, e) refl;
       is_left = rw (is_waiting, e) refl;
     }
@@ -135,7 +135,7 @@ module _ (s : Bookings) (whole : length s.places ≡ MOST_BOOKINGS) (d : ℕ) (y
 
 -- what waits is in order of day and input
 pub waiting_ascends : (s : Bookings) → Ascending sooner (waiting s)
-waiting_ascends s = ascending_listed sooner sooner_oneway sooner_chain (take s.count s.places)
+waiting_ascends s = ascending_listed sooner sooner_lawful (take s.count s.places)
 
 later_too : (d : ℕ) (a b : Booking) → due a d ≡ false → sooner a b ≡ true → due b d ≡ false
 later_too d a b n s = grind (arith, nat_tests)

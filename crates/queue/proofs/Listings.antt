@@ -1,15 +1,17 @@
 -- Lists in order, at most one element to a place.
-use Rattle.std.proofs.Common.{◌≡◌, ℕ, zero, suc, ◌<◌, Bool, true, false, cond, ◌⊎◌, List, [], ◌∷◌, All, length, get_or, set, sum_by, sym, refl, ap, ◌∙◌, subst, inl, inr, ⊎_elim, arith}
+use Rattle.std.proofs.Common.{◌≡◌, ℕ, suc, ◌+◌, ◌<◌, Bool, true, false, not, ◌&&◌, ◌||◌, cond, ◌⊎◌, List, [], ◌∷◌, ◌++◌, All, length, get_or, take, drop, set, count_by, sym, refl, ap, ◌∙◌, subst, inl, inr, ⊎_elim, arith}
 use Rattle.std.specs.List.Sorted.{IsPermutation}
 use Rattle.std.specs.List.{AllByRecursion}
-use Rattle.std.proofs.lemmas.List.Elements.{All-tail}
-use Rattle.std.proofs.lemmas.List.{get_or-set_same, get_or-set_other, length-set}
-use Rattle.std.proofs.lemmas.List.Sorted.{All-permutation, sum_by-IsPermutation, IsPermutation-refl, IsPermutation-sym, IsPermutation-trans, IsPermutation-cons, IsPermutation-swap}
 use Rattle.std.proofs.ByRecursion.{all_shuffled}
+use Rattle.std.proofs.lemmas.Bool.{cases_eq, cases_Bool, both_ways, true≢false, and_parts, not-true}
+use Rattle.std.proofs.lemmas.List.Elements.{All-tail}
+use Rattle.std.proofs.lemmas.List.Folds.{list_any-from_Any}
+use Rattle.std.proofs.lemmas.List.{get_or-set_same, get_or-set_other, get_or_default, set-get_or, set_split, length-set}
+use Rattle.std.proofs.lemmas.List.Sorted.{All-permutation, sum_by-IsPermutation, IsPermutation-sym, IsPermutation-middle}
 use Rattle.std.proofs.lemmas.List.Sums.{sum_by-cons, sum_by-set}
-use Rattle.std.proofs.lemmas.Bool.{cases_eq, cases_Bool, both_ways, false≢true, true≢false}
 use Rattle.queue.specs.Heaps.{Heaped, First}
 use Rattle.queue.specs.Listing.{same, placed, listed, has_place, Once, Ascending}
+use Rattle.queue.specs.Order.{Lawful}
 
 -- 1 where both have the same place
 abbrev one : {X : Type 0} → (X → X → Bool) → X → X → ℕ
@@ -40,31 +42,27 @@ all_from P (x ∷ xs) f = (f x (inl refl), all_from P xs (λ z h. f z (inr h)))
 shuffled_in : {X : Type 0} (xs ys : List X) → IsPermutation xs ys → (z : X) → In ys z → In xs z
 shuffled_in xs ys s z h = all_at (In xs) ys z (all_shuffled (In xs) xs ys s (all_from (In xs) xs (λ w k. k))) h
 
-two : {X : Type 0} (a b : X) (r : List X) → IsPermutation (a ∷ b ∷ r) (b ∷ a ∷ r)
-two a b r = IsPermutation-swap (a ∷ b ∷ r) (b ∷ a ∷ r) 0 1 (omega arith) (omega arith) refl
+-- the element b that is set at k, before the others
+set_at : {X : Type 0} (xs : List X) (k : ℕ) (b : X) → k < length xs → IsPermutation (set xs k b) (b ∷ (take k xs ++ drop (suc k) xs))
+set_at xs k b l = subst (λ q. IsPermutation q (b ∷ (take k xs ++ drop (suc k) xs))) (sym (set_split xs k b l)) (IsPermutation-middle (take k xs) b (drop (suc k) xs))
 
--- the element at k before the others, which stay the same when it is replaced
-pull : {X : Type 0} (d : X) (xs : List X) (k : ℕ) → k < length xs → (r : List X) × IsPermutation xs (get_or xs k d ∷ r) × ((b : X) → IsPermutation (set xs k b) (b ∷ r))
-pull d [] k l = absurd (omega arith)
-pull d (x ∷ xs) zero l = (xs, IsPermutation-refl (x ∷ xs), λ b. IsPermutation-refl (b ∷ xs))
-pull d (x ∷ xs) (suc k) l =
-    let p = pull d xs k (omega arith) in (
-      x ∷ p.0,
-      IsPermutation-trans (x ∷ xs) (x ∷ get_or xs k d ∷ p.0) (get_or xs k d ∷ x ∷ p.0) (IsPermutation-cons x xs (get_or xs k d ∷ p.0) p.1) (two x (get_or xs k d) p.0),
-      λ b. IsPermutation-trans (x ∷ set xs k b) (x ∷ b ∷ p.0) (b ∷ x ∷ p.0) (IsPermutation-cons x (set xs k b) (b ∷ p.0) (p.2 b)) (two x b p.0),
-    )
-
-swapped : (p q r : Bool) → cond p true (cond q true r) ≡ cond q true (cond p true r)
+swapped : (p q r : Bool) → (p || (q || r)) ≡ (q || (p || r))
 swapped true true r = refl
 swapped true false r = refl
 swapped false true r = refl
 swapped false false r = refl
 
-twice : (p r : Bool) → cond p true r ≡ cond p true (cond p true r)
+twice : (p r : Bool) → (p || r) ≡ (p || (p || r))
 twice true r = refl
 twice false r = refl
 
-module _ {X : Type 0} (before : X → X → Bool) (oneway : (a b : X) → before a b ≡ true → before b a ≡ false) (chain : (a b c : X) → before b a ≡ false → before c b ≡ false → before c a ≡ false) where
+module _ {X : Type 0} (before : X → X → Bool) (laws : Lawful (λ _. Unit {0}) before) where
+  oneway : (a b : X) → before a b ≡ true → before b a ≡ false
+  oneway a b h = laws.oneway a b tt tt h
+
+  chain : (a b c : X) → before b a ≡ false → before c b ≡ false → before c a ≡ false
+  chain a b c g h = laws.chain a b c tt tt tt g h
+
   itself : (a : X) → before a a ≡ false
   itself a = elim (cases_Bool (before a a)) [ inl e ↦ oneway a a e | inr e ↦ e ]
 
@@ -72,11 +70,7 @@ module _ {X : Type 0} (before : X → X → Bool) (oneway : (a b : X) → before
   over a b c e f = elim (cases_Bool (before a c)) [ inl h ↦ h | inr h ↦ absurd (both_ways (before a b) (chain b c a (oneway b c f) h) e) ]
 
   same_both : (a b : X) → same before a b ≡ true → (before a b ≡ false) × (before b a ≡ false)
-  same_both a b h = elim (cases_Bool (before a b)) [
-    | inl e ↦ let z : false ≡ true = rw e at h in absurd (false≢true z)
-    | inr e ↦ let g : cond (before b a) false true ≡ true = rw e at h in
-        elim (cases_Bool (before b a)) [ inl f ↦ let z : false ≡ true = rw f at g in absurd (false≢true z) | inr f ↦ (e, f) ]
-  ]
+  same_both a b h = let p = and_parts (not (before a b)) (not (before b a)) h in (not-true (before a b) p.0, not-true (before b a) p.1)
 
   both_same : (a b : X) → before a b ≡ false → before b a ≡ false → same before a b ≡ true
   both_same a b e f = rw (e, f) refl
@@ -98,10 +92,10 @@ module _ {X : Type 0} (before : X → X → Bool) (oneway : (a b : X) → before
       ]
 
   same_left : (a b c : X) → same before a b ≡ true → same before a c ≡ same before b c
-  same_left a b c h = λ i. cond (left_same a b c h i) false (cond (right_same a b c h i) false true)
+  same_left a b c h = λ i. not (left_same a b c h i) && not (right_same a b c h i)
 
   same_right : (a b c : X) → same before a b ≡ true → same before c a ≡ same before c b
-  same_right a b c h = λ i. cond (right_same a b c h i) false (cond (left_same a b c h i) false true)
+  same_right a b c h = λ i. not (right_same a b c h i) && not (left_same a b c h i)
 
   same_itself : (a : X) → same before a a ≡ true
   same_itself a = both_same a a (itself a) (itself a)
@@ -132,55 +126,59 @@ module _ {X : Type 0} (before : X → X → Bool) (oneway : (a b : X) → before
   ascending_listed [] = tt
   ascending_listed (x ∷ xs) = ascending_placed x (listed before xs) (ascending_listed xs)
 
-  has_placed : (x : X) (m : List X) (q : X) → has_place before (placed before x m) q ≡ cond (same before x q) true (has_place before m q)
+  has_placed : (x : X) (m : List X) (q : X) → has_place before (placed before x m) q ≡ (same before x q || has_place before m q)
   has_placed x [] q = refl
   has_placed x (y ∷ ys) q = elim (cases_Bool (before x y)) [
     | inl e ↦ rw e refl
     | inr e ↦ rw e (elim (cases_Bool (before y x)) [
-      | inl f ↦ rw f (ap (λ t. cond (same before y q) true t) (has_placed x ys q) ∙ swapped (same before y q) (same before x q) (has_place before ys q))
-      | inr f ↦ rw f (twice (same before x q) (has_place before ys q) ∙ ap (λ t. cond (same before x q) true (cond t true (has_place before ys q))) (same_left x y q (both_same x y e f)))
+      | inl f ↦ rw f (ap (λ t. same before y q || t) (has_placed x ys q) ∙ swapped (same before y q) (same before x q) (has_place before ys q))
+      | inr f ↦ rw f (twice (same before x q) (has_place before ys q) ∙ ap (λ t. same before x q || (t || has_place before ys q)) (same_left x y q (both_same x y e f)))
     ])
   ]
 
   pub has_listed : (xs : List X) (q : X) → has_place before (listed before xs) q ≡ has_place before xs q
   has_listed [] q = refl
-  has_listed (x ∷ xs) q = has_placed x (listed before xs) q ∙ ap (λ t. cond (same before x q) true t) (has_listed xs q)
+  has_listed (x ∷ xs) q = has_placed x (listed before xs) q ∙ ap (λ t. same before x q || t) (has_listed xs q)
 
-  sum_none : (xs : List X) (q : X) → sum_by (λ y. cond (same before y q) 1 0) xs ≡ 0 → has_place before xs q ≡ false
-  sum_none [] q h = refl
-  sum_none (y ∷ ys) q h =
-      let c = sum_by-cons (one before q) y ys in
+  -- how many more one is
+  count_more : (x : X) (xs : List X) (q : X) → count_by (λ y. same before y q) (x ∷ xs) ≡ one before q x + count_by (λ y. same before y q) xs
+  count_more x xs q = sum_by-cons (one before q) x xs
+
+  none_counted : (xs : List X) (q : X) → count_by (λ y. same before y q) xs ≡ 0 → has_place before xs q ≡ false
+  none_counted [] q h = refl
+  none_counted (y ∷ ys) q h =
+      let c = count_more y ys q in
       elim (cases_Bool (same before y q)) [
         | inl e ↦ let o : one before q y ≡ 1 = rw e refl in absurd (omega arith)
-        | inr e ↦ rw e (sum_none ys q (omega arith))
+        | inr e ↦ rw e (none_counted ys q (omega arith))
       ]
 
-  none_sum : (xs : List X) (q : X) → has_place before xs q ≡ false → sum_by (λ y. cond (same before y q) 1 0) xs ≡ 0
-  none_sum [] q h = refl
-  none_sum (y ∷ ys) q h =
-      let c = sum_by-cons (one before q) y ys in
+  counted_none : (xs : List X) (q : X) → has_place before xs q ≡ false → count_by (λ y. same before y q) xs ≡ 0
+  counted_none [] q h = refl
+  counted_none (y ∷ ys) q h =
+      let c = count_more y ys q in
       elim (cases_Bool (same before y q)) [
         | inl e ↦ let z : true ≡ false = rw e at h in absurd (true≢false z)
-        | inr e ↦ let g : has_place before ys q ≡ false = rw e at h in let o : one before q y ≡ 0 = rw e refl in let n = none_sum ys q g in omega arith
+        | inr e ↦ let n = counted_none ys q (rw e at h) in let o : one before q y ≡ 0 = rw e refl in omega arith
       ]
 
   pub once_behind : (x : X) (xs : List X) → Once before (x ∷ xs) → Once before xs
-  once_behind x xs h q = omega (arith, h q, sum_by-cons (one before q) x xs)
+  once_behind x xs h q = omega (arith, h q, count_more x xs q)
 
   once_none : (x : X) (xs : List X) → Once before (x ∷ xs) → has_place before xs x ≡ false
   once_none x xs h =
       let o : one before x x ≡ 1 = ap (λ t. cond t 1 0) (same_itself x) in
-      sum_none xs x (omega (arith, h x, sum_by-cons (one before x) x xs))
+      none_counted xs x (omega (arith, h x, count_more x xs x))
 
   has_same : (a b : X) → same before a b ≡ true → (xs : List X) → has_place before xs a ≡ has_place before xs b
   has_same a b h [] = refl
-  has_same a b h (y ∷ ys) = λ i. cond (same_right a b y h i) true (has_same a b h ys i)
+  has_same a b h (y ∷ ys) = λ i. same_right a b y h i || has_same a b h ys i
 
   pub once_more : (b : X) (xs : List X) → has_place before xs b ≡ false → Once before xs → Once before (b ∷ xs)
   once_more b xs n h q =
-      let c = sum_by-cons (one before q) b xs in
+      let c = count_more b xs q in
       elim (cases_Bool (same before b q)) [
-        | inl e ↦ let o : one before q b ≡ 1 = rw e refl in let z = none_sum xs q (sym (has_same b q e xs) ∙ n) in omega arith
+        | inl e ↦ let o : one before q b ≡ 1 = rw e refl in let z = counted_none xs q (sym (has_same b q e xs) ∙ n) in omega arith
         | inr e ↦ let o : one before q b ≡ 0 = rw e refl in omega (arith, h q)
       ]
 
@@ -305,10 +303,11 @@ module _ {X : Type 0} (before : X → X → Bool) (oneway : (a b : X) → before
   -- one that is replaced by another with the same place
   pub set_listed : (xs : List X) (k : ℕ) (b d : X) → k < length xs → same before (get_or xs k d) b ≡ true → Once before xs → listed before (set xs k b) ≡ placed before b (listed before xs)
   set_listed xs k b d l e o =
-      let p = pull d xs k l in
-      same_listed (set xs k b) (b ∷ p.0) (p.2 b) (once_set xs k b d l e o)
-      ∙ sym (placed_over (get_or xs k d) b e (listed before p.0))
-      ∙ ap (placed before b) (sym (same_listed xs (get_or xs k d ∷ p.0) p.1 o))
+      let others = take k xs ++ drop (suc k) xs in
+      let was = subst (λ q. IsPermutation q (get_or xs k d ∷ others)) (set-get_or xs k d) (set_at xs k (get_or xs k d) l) in
+      same_listed (set xs k b) (b ∷ others) (set_at xs k b l) (once_set xs k b d l e o)
+      ∙ sym (placed_over (get_or xs k d) b e (listed before others))
+      ∙ ap (placed before b) (sym (same_listed xs (get_or xs k d ∷ others) was o))
 
   alike_set : (xs : List X) (k : ℕ) (b : X) → k < length xs → ((d : X) → same before (get_or xs k d) b ≡ true) → (i : ℕ) (d : X) → same before (get_or (set xs k b) i d) (get_or xs i d) ≡ true
   alike_set xs k b l e i d = ⊎_elim
@@ -322,12 +321,5 @@ module _ {X : Type 0} (before : X → X → Bool) (oneway : (a b : X) → before
       ∙ right_same (get_or (set xs k b) p d) (get_or xs p d) (get_or xs i d) (alike_set xs k b l e p d)
       ∙ h p i d a a' (omega (arith, length-set xs k b))
 
-  -- none has the same place, place by place
-  pub none_places : (xs : List X) (b : X) → ((k : ℕ) (d : X) → k < length xs → same before (get_or xs k d) b ≡ false) → has_place before xs b ≡ false
-  none_places [] b f = refl
-  none_places (x ∷ xs) b f = let e : same before x b ≡ false = f 0 x (omega arith) in rw e (none_places xs b (λ k d l. f (suc k) d (omega arith)))
-
   pub some_place : (xs : List X) (b : X) (k : ℕ) (d : X) → k < length xs → same before (get_or xs k d) b ≡ true → has_place before xs b ≡ true
-  some_place [] b k d l e = absurd (omega arith)
-  some_place (x ∷ xs) b zero d l e = rw e refl
-  some_place (x ∷ xs) b (suc k) d l e = elim (cases_Bool (same before x b)) [ inl f ↦ rw f refl | inr f ↦ rw f (some_place xs b k d (omega arith) e) ]
+  some_place xs b k d l e = list_any-from_Any (λ y. same before y b) xs (k, get_or xs k d, l, get_or_default xs k (get_or xs k d) d l, e)

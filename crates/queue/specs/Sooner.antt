@@ -1,5 +1,5 @@
 -- The order of bookings: by day, and then by input.
-use Rattle.std.specs.Prelude.{◌≡◌, ℕ, Bool, true, false, if◌then◌else◌, ◌==◌, nat_le, nat_lt}
+use Rattle.std.specs.Prelude.{◌≡◌, ℕ, Bool, true, false, ◌&&◌, ◌||◌, ◌==◌, nat_le, nat_lt}
 use Rattle.std.proofs.Common.{arith}
 use Rattle.std.proofs.lemmas.Bool.Decides.{nat_tests}
 use Rattle.queue.specs.declared.booking.Booking.{Booking}
@@ -7,7 +7,7 @@ use Rattle.queue.specs.Order.{Lawful}
 
 -- by two numbers, the first of them first
 abbrev pub first_by : ℕ → ℕ → ℕ → ℕ → Bool
-first_by d i e j = if nat_lt d e then true else (if d == e then nat_lt i j else false)
+first_by d i e j = nat_lt d e || (d == e && nat_lt i j)
 
 -- whether a is for an earlier day than b, or for the same day and an input with a lower number
 abbrev pub sooner : Booking → Booking → Bool
@@ -15,7 +15,7 @@ sooner a b = first_by a.day a.input b.day b.input
 
 -- whether both are for the same day and input
 abbrev pub is_same_place : Booking → Booking → Bool
-is_same_place a b = if a.day == b.day then a.input == b.input else false
+is_same_place a b = a.day == b.day && a.input == b.input
 
 -- whether a booking is for a day up to d
 abbrev pub due : Booking → ℕ → Bool
