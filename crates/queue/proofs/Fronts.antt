@@ -2,7 +2,7 @@
 use Rattle.std.proofs.Common.{◌≡◌, ℕ, zero, suc, ◌+◌, ◌-◌, ◌<◌, ◌≤◌, Bool, List, [], ◌∷◌, ◌++◌, All, length, get_or, take, drop, set, Some, Ok, refl, sym, ap, ◌∙◌, subst, arith}
 use Rattle.std.specs.List.Sorted.{IsPermutation}
 use Rattle.std.proofs.Math.Seq.{take-suc, take-length}
-use Rattle.std.proofs.lemmas.List.{length-take-le, length-set, get_or-take, get_or-set_other, get_or_append_left, get_or_default, take_more_set, take-append-le, drop-set-lt}
+use Rattle.std.proofs.lemmas.List.{length-take-le, length-set, get_or-take, get_or-set_other, get_or_default, take_more_set, take-append-le, drop-set-lt}
 use Rattle.std.proofs.lemmas.List.Elements.{All-tail}
 use Rattle.std.proofs.lemmas.List.Sorted.{All-permutation, IsPermutation-refl, IsPermutation-sym, IsPermutation-trans, IsPermutation-to_front, IsPermutation-cons, length_permutation}
 use Rattle.std.proofs.lemmas.Slice.{drop-append-drop}
@@ -27,8 +27,7 @@ module _ {X : Type 0} (P : X → Type 0) (before : X → X → Bool) (xs : List 
   grown_heaped : Heaped before (take n xs) → HeapedTo before (take (n + 1) (set xs n x)) n
   grown_heaped h p k d a b f =
       let long = length-take-le n xs (omega arith) in
-      let at : (i : ℕ) → i < n → get_or (take (n + 1) (set xs n x)) i d ≡ get_or (take n xs) i d = λ i l. ap (λ q. get_or q i d) (take_more_set xs n x room) ∙ get_or_append_left (take n xs) (x ∷ []) d i (omega arith) in
-      (λ i. before (at k f i) (at p (omega arith) i)) ∙ h p k d a b (omega arith)
+      grind (arith, get_or-take, get_or-set_other xs n k x d, get_or-set_other xs n p x d, h p k d)
 
   -- a put whose last element rose
   pub puts : (ys : List X) → IsPermutation (take (n + 1) (set xs n x)) ys → (All P (take (n + 1) (set xs n x)) → HeapedTo before (take (n + 1) (set xs n x)) (length (take (n + 1) (set xs n x)) - 1) → Heaped before ys) → Puts P before n x xs (Ok (n + 1)) (ys ++ drop (n + 1) (set xs n x))
@@ -55,14 +54,11 @@ module _ {X : Type 0} (P : X → Type 0) (before : X → X → Bool) (laws : Law
   left_heaped : Heaped before (take (suc m) xs) → HeapedBut before (take m (set xs 0 v))
   left_heaped h p k d one a b f =
       let long = length-take-le (suc m) xs (omega arith) in
-      let short : k < m = omega (arith, f, length-take-le m (set xs 0 v) (omega (arith, length-set xs 0 v))) in
-      let at : (i : ℕ) → 1 ≤ i → i < m → get_or (take m (set xs 0 v)) i d ≡ get_or (take (suc m) xs) i d = λ i l f. get_or-take m (set xs 0 v) i d f ∙ get_or-set_other xs 0 i v d (omega arith) ∙ sym (get_or-take (suc m) xs i d (omega arith)) in
-      (λ i. before (at k (omega arith) short i) (at p one (omega arith) i)) ∙ h p k d a b (omega arith)
+      let short = length-take-le m (set xs 0 v) (omega (arith, length-set xs 0 v)) in
+      grind (arith, get_or-take, get_or-set_other xs 0 k v d, get_or-set_other xs 0 p v d, h p k d)
 
   first_of : All P (take (suc m) xs) → Heaped before (take (suc m) xs) → First before x (take (suc m) xs)
-  first_of all h k d f =
-      let e : x ≡ get_or (take (suc m) xs) 0 d = is_x ∙ get_or_default xs 0 x d (omega arith) ∙ sym (get_or-take (suc m) xs 0 d (omega arith)) in
-      ap (before (get_or (take (suc m) xs) k d)) e ∙ top before P laws (take (suc m) xs) d all h k k (omega arith) f
+  first_of all h k d f = grind (arith, get_or-take (suc m) xs 0 d, get_or_default xs 0 x d, top before P laws (take (suc m) xs) d all h k k)
 
   -- a take whose first element sank
   pub takes : (n : ℕ) → n ≡ suc m → (ys : List X) → IsPermutation (take m (set xs 0 v)) ys → (All P (take m (set xs 0 v)) → HeapedBut before (take m (set xs 0 v)) → Heaped before ys) → Takes P before n xs (Some x) (ys ++ drop m (set xs 0 v))
