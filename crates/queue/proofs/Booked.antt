@@ -27,10 +27,7 @@ same_place a b = grind (arith, nat_tests)
 -- none is found where none has the place
 none_from : (b : Booking) (i : ℕ) (xs : List Booking) → position_from (λ p. is_same_place p b) i xs ≡ None → has_place sooner xs b ≡ false
 none_from b i [] e = refl
-none_from b i (x ∷ xs) e = rw same_place (elim (cases_Bool (is_same_place x b)) [
-  | inl f ↦ let z : Some i ≡ None = rw f at e in cc
-  | inr f ↦ rw f (none_from b (i + 1) xs (rw f at e))
-])
+none_from b i (x ∷ xs) e = grind (arith, same_place x b, none_from b (i + 1) xs)
 
 none_has : (b : Booking) (xs : List Booking) → position (λ p. is_same_place p b) xs ≡ None → has_place sooner xs b ≡ false
 none_has b xs e = none_from b 0 xs (sym (position_from-zero (λ p. is_same_place p b) xs) ∙ e)
@@ -147,7 +144,4 @@ none_behind d a (b ∷ bs) n h = (later_too d a b n h.0, none_behind d a bs n h.
 -- where the first is not due, none is
 pub none_left : (d : ℕ) (ws : List Booking) → Ascending sooner ws → first_due ws d ≡ None → AllByRecursion (λ b. due b d ≡ false) ws
 none_left d [] a n = tt
-none_left d (b ∷ bs) a n = elim (cases_Bool (due b d)) [
-  | inl e ↦ let z : Some b ≡ None = rw e at n in cc
-  | inr e ↦ (e, none_behind d b bs e a.0)
-]
+none_left d (b ∷ bs) a n = grind (arith, none_behind d b bs)

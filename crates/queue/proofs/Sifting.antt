@@ -51,8 +51,7 @@ module _ {X : Type 0} (before : X → X → Bool) (P : X → Type 0) (o : Lawful
 
   pub rise_steps : Gap before xs j × Foremost before xs j j → Gap before ys p × Foremost before ys p p
   rise_steps h =
-      let over : (q k : ℕ) (d : X) → P (get_or xs q d) → P (get_or xs p d) → P (get_or xs k d) → before (get_or xs p d) (get_or xs q d) ≡ false → before (get_or xs k d) (get_or xs p d) ≡ false → before (get_or xs k d) (get_or xs q d) ≡ false = λ q k d. o.chain (get_or xs q d) (get_or xs p d) (get_or xs k d) in
-      (
+      let over : (q k : ℕ) (d : X) → P (get_or xs q d) → P (get_or xs p d) → P (get_or xs k d) → before (get_or xs p d) (get_or xs q d) ≡ false → before (get_or xs k d) (get_or xs p d) ≡ false → before (get_or xs k d) (get_or xs q d) ≡ false = λ q k d. o.chain (get_or xs q d) (get_or xs p d) (get_or xs k d) in (
         (
           λ q k d a b l nk nq. grind (arith, at-k k d, at-k q d, at_j d, h.0.0 q k d, h.0.1 p k d),
           λ q k d a b a' b' l. grind (arith, at-k k d, at-k q d, at_j d, h.0.0 q p d, h.0.0 p k d, over q k d, all q d, all p d, all k d),

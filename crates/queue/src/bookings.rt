@@ -15,6 +15,7 @@ use program::value::InputContent;
 pub const MOST_BOOKINGS: usize = 64;
 
 /// What stands where no booking waits.
+// It is no `Default`: day 0 and input 0 are a day and an input like any other.
 const BLANK: Booking = Booking {
     day: 0,
     input: 0,
@@ -22,9 +23,10 @@ const BLANK: Booking = Booking {
 };
 
 /// The bookings that wait: a queue in the first `count` places, at most one for a day and input.
+// Clauses see them by `waiting`; an `impl Model` by that list would no longer say that it is in order.
 #[derive(Drop)]
 pub struct Bookings {
-    // A queue takes its places as a slice and its count beside it.
+    // The queue's functions take places as a slice with the count beside it, and nothing is allocated.
     places: [Booking; MOST_BOOKINGS],
     count: usize,
     ghost sized: { count ≤ MOST_BOOKINGS },
@@ -47,7 +49,8 @@ impl Bookings {
 
     /// Where the booking for the same day and input waits.
     fn place_of(&self, b: &Booking) -> Option<usize>
-        ensures { result ≡ position (λ p. is_same_place p b.now) (take self.now.count self.now.places) }
+        ensures { result
+            ≡ position (λ p. is_same_place p b.now) (take self.now.count self.now.places) }
     {
         self.places[..self.count]
             .iter()

@@ -1,5 +1,5 @@
 // A queue as a heap in the first places of a slice: no element stands before its parent.
-// The order, the slice and the count are the caller's and stay apart: nothing is allocated, and one queue serves every kind of element.
+// The slice and the count stay the caller's: nothing is allocated, and one queue serves every kind of element.
 ghost use Rattle.std.specs.Prelude.{◌≡◌, ◌+◌, ◌-◌, ◌*◌, ◌<◌, ◌≤◌, min, length, All};
 ghost use Rattle.std.specs.List.Sorted.{IsPermutation};
 ghost use Rattle.queue.specs.Heaps.{HeapedTo, Heaped, HeapedBut, Foremost, Puts, Takes};
@@ -11,7 +11,9 @@ use crate::refusal::QueueRefusal;
 fn rise<Q: Order>(order: &Q, heap: &mut [Q::Element])
     requires { 0 < length heap.old }
     ensures shuffled { IsPermutation heap.old heap.new }
-    ensures heaped { All (Q.belongs order.now) heap.old → HeapedTo (Q.precedes order.now) heap.old (length heap.old - 1) → Heaped (Q.precedes order.now) heap.new }
+    ensures heaped { All (Q.belongs order.now) heap.old
+        → HeapedTo (Q.precedes order.now) heap.old (length heap.old - 1)
+        → Heaped (Q.precedes order.now) heap.new }
 {
     let mut place = heap.len() - 1;
     while 0 < place {
@@ -28,7 +30,8 @@ fn rise<Q: Order>(order: &Q, heap: &mut [Q::Element])
 fn foremost_child<Q: Order>(order: &Q, heap: &[Q::Element], place: usize) -> usize
     requires { place * 2 + 1 < length heap.now }
     ensures bound { (result < length heap.now) × (place * 2 + 1 ≤ result) × (result ≤ place * 2 + 2) }
-    ensures foremost { All (Q.belongs order.now) heap.now → Foremost (Q.precedes order.now) heap.now place result }
+    ensures foremost { All (Q.belongs order.now) heap.now
+        → Foremost (Q.precedes order.now) heap.now place result }
 {
     let left = 2 * place + 1;
     let right = left + 1;
@@ -42,7 +45,9 @@ fn foremost_child<Q: Order>(order: &Q, heap: &[Q::Element], place: usize) -> usi
 /// Moves the first element down, until no child stands before it.
 fn sink<Q: Order>(order: &Q, heap: &mut [Q::Element])
     ensures shuffled { IsPermutation heap.old heap.new }
-    ensures heaped { All (Q.belongs order.now) heap.old → HeapedBut (Q.precedes order.now) heap.old → Heaped (Q.precedes order.now) heap.new }
+    ensures heaped { All (Q.belongs order.now) heap.old
+        → HeapedBut (Q.precedes order.now) heap.old
+        → Heaped (Q.precedes order.now) heap.new }
 {
     let n = heap.len();
     let mut place = 0;
@@ -76,7 +81,8 @@ pub fn put<Q: Order>(
 /// Takes out one of the first `count` elements, such that no other stands before it where all belong. It leaves one less.
 /// A count beyond the slice is the slice's length.
 pub fn take<Q: Order>(order: &Q, heap: &mut [Q::Element], count: usize) -> Option<Q::Element>
-    ensures { Takes (Q.belongs order.now) (Q.precedes order.now) (min count (length heap.old)) heap.old result heap.new }
+    ensures { let n = min count (length heap.old) in
+        Takes (Q.belongs order.now) (Q.precedes order.now) n heap.old result heap.new }
 {
     let last = count.min(heap.len()).checked_sub(1)?;
     let first = heap[0];

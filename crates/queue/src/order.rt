@@ -15,7 +15,8 @@ pub trait Order {
 
     /// Whether a stands before b; left open where one of them does not belong.
     fn before(&self, a: &Self::Element, b: &Self::Element) -> bool
-        ensures { belongs self.now a.now → belongs self.now b.now → result ≡ precedes self.now a.now b.now };
+        ensures { belongs self.now a.now → belongs self.now b.now
+            → result ≡ precedes self.now a.now b.now };
 
     /// The laws, among those that belong.
     ghost lawful: { (o : Self) → Lawful (belongs o) (precedes o) };

@@ -21,7 +21,8 @@ impl QueueRefusal {
     }
 }
 
-/// Why a booking is not kept: by a number of its own, and not the queue's.
+/// Why a booking is not kept.
+// An enum beside the queue's, since each refusal is told by its own number.
 #[derive(Clone, Copy, PartialEq, Eq, Debug)]
 pub enum BookingRefusal {
     /// As many bookings wait as can, and none has this day and input.

@@ -15,7 +15,8 @@ pub fn queue_read<O: OrderList>(
     count: usize,
     x: StaleRead,
 ) -> Result<usize, QueueRefusal>
-    ensures { Puts (Stands (O.order list.now)) (stale_before (O.order list.now)) count x places.old result places.new }
+    ensures { let xs = O.order list.now in
+        Puts (Stands xs) (stale_before xs) count x places.old result places.new }
 {
     put(&StaleOrder { list }, places, count, x)
 }
@@ -26,7 +27,9 @@ pub fn earliest_read<O: OrderList>(
     places: &mut [StaleRead],
     count: usize,
 ) -> Option<StaleRead>
-    ensures { Takes (Stands (O.order list.now)) (stale_before (O.order list.now)) (min count (length places.old)) places.old result places.new }
+    ensures { let xs = O.order list.now in
+        let n = min count (length places.old) in
+        Takes (Stands xs) (stale_before xs) n places.old result places.new }
 {
     take(&StaleOrder { list }, places, count)
 }
