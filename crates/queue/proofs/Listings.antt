@@ -1,15 +1,17 @@
 -- Lists in order, at most one element to a place.
-use Rattle.std.proofs.Common.{◌≡◌, ℕ, zero, suc, ◌<◌, Bool, true, false, cond, ◌⊎◌, List, [], ◌∷◌, length, get_or, take, set, sum_by, sym, refl, ap, ◌∙◌, subst, inl, inr, ⊎_elim, arith}
+use Rattle.std.proofs.Common.{◌≡◌, ℕ, suc, ◌+◌, ◌<◌, Bool, true, false, not, ◌&&◌, ◌||◌, cond, ◌⊎◌, List, [], ◌∷◌, ◌++◌, All, length, get_or, take, drop, set, count_by, sym, refl, ap, ◌∙◌, subst, inl, inr, arith}
 use Rattle.std.specs.List.Sorted.{IsPermutation}
 use Rattle.std.specs.List.{AllByRecursion}
-use Rattle.std.proofs.lemmas.List.{get_or-set_same, get_or-set_other, length-set}
-use Rattle.std.proofs.lemmas.List.Sorted.{sum_by-IsPermutation, IsPermutation-refl, IsPermutation-sym, IsPermutation-trans, IsPermutation-cons, IsPermutation-swap}
 use Rattle.std.proofs.ByRecursion.{all_shuffled}
+use Rattle.std.proofs.lemmas.Bool.{cases_Bool, both_ways}
+use Rattle.std.proofs.lemmas.List.Elements.{All-tail}
+use Rattle.std.proofs.lemmas.List.Folds.{list_any-from_Any}
+use Rattle.std.proofs.lemmas.List.{get_or-set_same, get_or-set_other, get_or_default, set-get_or, set_split, length-set}
+use Rattle.std.proofs.lemmas.List.Sorted.{All-permutation, sum_by-IsPermutation, IsPermutation-sym, IsPermutation-middle}
 use Rattle.std.proofs.lemmas.List.Sums.{sum_by-cons, sum_by-set}
-use Rattle.std.proofs.lemmas.Bool.{cases_eq, cases_Bool, both_ways, false≢true, true≢false}
 use Rattle.queue.specs.Heaps.{Heaped, First}
 use Rattle.queue.specs.Listing.{same, placed, listed, has_place, Once, Ascending}
-use Rattle.queue.proofs.Sifting.{belong_all, belong_shuffled}
+use Rattle.queue.specs.Order.{Lawful}
 
 -- 1 where both have the same place
 abbrev one : {X : Type 0} → (X → X → Bool) → X → X → ℕ
@@ -24,6 +26,10 @@ all_map : {X : Type 0} (P Q : X → Type 0) (f : (z : X) → P z → Q z) (xs : 
 all_map P Q f [] h = tt
 all_map P Q f (x ∷ xs) h = (f x h.0, all_map P Q f xs h.1)
 
+by_recursion : {X : Type 0} (P : X → Type 0) (xs : List X) → All P xs → AllByRecursion P xs
+by_recursion P [] h = tt
+by_recursion P (x ∷ xs) h = (h 0 x (omega arith), by_recursion P xs (All-tail P x xs h))
+
 all_at : {X : Type 0} (P : X → Type 0) (xs : List X) (z : X) → AllByRecursion P xs → In xs z → P z
 all_at P [] z a h = absurd h
 all_at P (x ∷ xs) z a (inl e) = subst P e a.0
@@ -36,84 +42,47 @@ all_from P (x ∷ xs) f = (f x (inl refl), all_from P xs (λ z h. f z (inr h)))
 shuffled_in : {X : Type 0} (xs ys : List X) → IsPermutation xs ys → (z : X) → In ys z → In xs z
 shuffled_in xs ys s z h = all_at (In xs) ys z (all_shuffled (In xs) xs ys s (all_from (In xs) xs (λ w k. k))) h
 
-two : {X : Type 0} (a b : X) (r : List X) → IsPermutation (a ∷ b ∷ r) (b ∷ a ∷ r)
-two a b r = IsPermutation-swap (a ∷ b ∷ r) (b ∷ a ∷ r) 0 1 (omega arith) (omega arith) refl
+-- the element b that is set at k, before the others
+set_at : {X : Type 0} (xs : List X) (k : ℕ) (b : X) → k < length xs → IsPermutation (set xs k b) (b ∷ (take k xs ++ drop (suc k) xs))
+set_at xs k b l = subst (λ q. IsPermutation q (b ∷ (take k xs ++ drop (suc k) xs))) (sym (set_split xs k b l)) (IsPermutation-middle (take k xs) b (drop (suc k) xs))
 
--- the element at k before the others, which stay the same when it is replaced
-pull : {X : Type 0} (d : X) (xs : List X) (k : ℕ) → k < length xs → (r : List X) × IsPermutation xs (get_or xs k d ∷ r) × ((b : X) → IsPermutation (set xs k b) (b ∷ r))
-pull d [] k l = absurd (omega arith)
-pull d (x ∷ xs) zero l = (xs, IsPermutation-refl (x ∷ xs), λ b. IsPermutation-refl (b ∷ xs))
-pull d (x ∷ xs) (suc k) l =
-    let p = pull d xs k (omega arith) in (
-      x ∷ p.0,
-      IsPermutation-trans (x ∷ xs) (x ∷ get_or xs k d ∷ p.0) (get_or xs k d ∷ x ∷ p.0) (IsPermutation-cons x xs (get_or xs k d ∷ p.0) p.1) (two x (get_or xs k d) p.0),
-      λ b. IsPermutation-trans (x ∷ set xs k b) (x ∷ b ∷ p.0) (b ∷ x ∷ p.0) (IsPermutation-cons x (set xs k b) (b ∷ p.0) (p.2 b)) (two x b p.0),
-    )
+module _ {X : Type 0} (before : X → X → Bool) (laws : Lawful (λ _. Unit {0}) before) where
+  oneway : (a b : X) → before a b ≡ true → before b a ≡ false
+  oneway a b h = laws.oneway a b tt tt h
 
-pub take_set_within : {X : Type 0} (n : ℕ) (xs : List X) (k : ℕ) (b : X) → k < n → take n (set xs k b) ≡ set (take n xs) k b
-take_set_within zero xs k b l = absurd (omega arith)
-take_set_within (suc n) [] k b l = refl
-take_set_within (suc n) (x ∷ xs) zero b l = refl
-take_set_within (suc n) (x ∷ xs) (suc k) b l = ap (λ m. x ∷ m) (take_set_within n xs k b (omega arith))
+  chain : (a b c : X) → before b a ≡ false → before c b ≡ false → before c a ≡ false
+  chain a b c g h = laws.chain a b c tt tt tt g h
 
-swapped : (p q r : Bool) → cond p true (cond q true r) ≡ cond q true (cond p true r)
-swapped true true r = refl
-swapped true false r = refl
-swapped false true r = refl
-swapped false false r = refl
-
-twice : (p r : Bool) → cond p true r ≡ cond p true (cond p true r)
-twice true r = refl
-twice false r = refl
-
-module _ {X : Type 0} (before : X → X → Bool) (oneway : (a b : X) → before a b ≡ true → before b a ≡ false) (chain : (a b c : X) → before b a ≡ false → before c b ≡ false → before c a ≡ false) where
   itself : (a : X) → before a a ≡ false
   itself a = elim (cases_Bool (before a a)) [ inl e ↦ oneway a a e | inr e ↦ e ]
 
   over : (a b c : X) → before a b ≡ true → before b c ≡ true → before a c ≡ true
-  over a b c e f = elim (cases_Bool (before a c)) [ inl h ↦ h | inr h ↦ absurd (both_ways (before a b) (chain b c a (oneway b c f) h) e) ]
+  over a b c e f = grind (arith, oneway b c, chain b c a)
 
   same_both : (a b : X) → same before a b ≡ true → (before a b ≡ false) × (before b a ≡ false)
-  same_both a b h = elim (cases_Bool (before a b)) [
-    | inl e ↦ let z : false ≡ true = rw e at h in absurd (false≢true z)
-    | inr e ↦ let g : cond (before b a) false true ≡ true = rw e at h in
-        elim (cases_Bool (before b a)) [ inl f ↦ let z : false ≡ true = rw f at g in absurd (false≢true z) | inr f ↦ (e, f) ]
-  ]
+  same_both a b h = grind arith
 
   both_same : (a b : X) → before a b ≡ false → before b a ≡ false → same before a b ≡ true
   both_same a b e f = rw (e, f) refl
 
   left_same : (a b c : X) → same before a b ≡ true → before a c ≡ before b c
-  left_same a b c h =
-      let s = same_both a b h in
-      elim (cases_Bool (before b c)) [
-        | inl e ↦ elim (cases_Bool (before a c)) [ inl f ↦ f ∙ sym e | inr f ↦ absurd (both_ways (before b c) (chain c a b f s.1) e) ]
-        | inr e ↦ chain c b a e s.0 ∙ sym e
-      ]
+  left_same a b c h = grind (arith, chain c a b, chain c b a)
 
   right_same : (a b c : X) → same before a b ≡ true → before c a ≡ before c b
-  right_same a b c h =
-      let s = same_both a b h in
-      elim (cases_Bool (before c b)) [
-        | inl e ↦ elim (cases_Bool (before c a)) [ inl f ↦ f ∙ sym e | inr f ↦ absurd (both_ways (before c b) (chain b a c s.0 f) e) ]
-        | inr e ↦ chain a b c s.1 e ∙ sym e
-      ]
+  right_same a b c h = grind (arith, chain b a c, chain a b c)
 
   same_left : (a b c : X) → same before a b ≡ true → same before a c ≡ same before b c
-  same_left a b c h = λ i. cond (left_same a b c h i) false (cond (right_same a b c h i) false true)
+  same_left a b c h = λ i. not (left_same a b c h i) && not (right_same a b c h i)
 
   same_right : (a b c : X) → same before a b ≡ true → same before c a ≡ same before c b
-  same_right a b c h = λ i. cond (right_same a b c h i) false (cond (left_same a b c h i) false true)
+  same_right a b c h = λ i. not (right_same a b c h i) && not (left_same a b c h i)
 
   same_itself : (a : X) → same before a a ≡ true
   same_itself a = both_same a a (itself a) (itself a)
 
   all_placed : (P : X → Type 0) (x : X) (m : List X) → P x → AllByRecursion P m → AllByRecursion P (placed before x m)
   all_placed P x [] p a = (p, tt)
-  all_placed P x (y ∷ ys) p a = elim (cases_Bool (before x y)) [
-    | inl e ↦ rw e (p, a)
-    | inr e ↦ rw e (elim (cases_Bool (before y x)) [ inl f ↦ rw f (a.0, all_placed P x ys p a.1) | inr f ↦ rw f (p, a.1) ])
-  ]
+  all_placed P x (y ∷ ys) p a = grind (arith, all_placed P x ys)
 
   all_listed : (P : X → Type 0) (xs : List X) → AllByRecursion P xs → AllByRecursion P (listed before xs)
   all_listed P [] a = tt
@@ -121,70 +90,49 @@ module _ {X : Type 0} (before : X → X → Bool) (oneway : (a b : X) → before
 
   ascending_placed : (x : X) (m : List X) → Ascending before m → Ascending before (placed before x m)
   ascending_placed x [] a = (tt, tt)
-  ascending_placed x (y ∷ ys) a = elim (cases_Bool (before x y)) [
-    | inl e ↦ rw e ((e, all_map (λ z. before y z ≡ true) (λ z. before x z ≡ true) (λ z h. over x y z e h) ys a.0), a)
-    | inr e ↦ rw e (elim (cases_Bool (before y x)) [
-      | inl f ↦ rw f (all_placed (λ z. before y z ≡ true) x ys f a.0, ascending_placed x ys a.1)
-      | inr f ↦ rw f (all_map (λ z. before y z ≡ true) (λ z. before x z ≡ true) (λ z h. left_same x y z (both_same x y e f) ∙ h) ys a.0, a.1)
-    ])
-  ]
+  ascending_placed x (y ∷ ys) a =
+      let past = λ (f : (z : X) → before y z ≡ true → before x z ≡ true). all_map (λ z. before y z ≡ true) (λ z. before x z ≡ true) f ys a.0 in
+      let over_y = λ (e : before x y ≡ true). past (λ z h. over x y z e h) in
+      let as_y = λ (e : same before x y ≡ true). past (λ z h. left_same x y z e ∙ h) in
+      grind (arith, over_y, as_y, all_placed (λ z. before y z ≡ true) x ys, ascending_placed x ys)
 
   -- what is listed is in order
   pub ascending_listed : (xs : List X) → Ascending before (listed before xs)
   ascending_listed [] = tt
   ascending_listed (x ∷ xs) = ascending_placed x (listed before xs) (ascending_listed xs)
 
-  has_placed : (x : X) (m : List X) (q : X) → has_place before (placed before x m) q ≡ cond (same before x q) true (has_place before m q)
+  has_placed : (x : X) (m : List X) (q : X) → has_place before (placed before x m) q ≡ (same before x q || has_place before m q)
   has_placed x [] q = refl
-  has_placed x (y ∷ ys) q = elim (cases_Bool (before x y)) [
-    | inl e ↦ rw e refl
-    | inr e ↦ rw e (elim (cases_Bool (before y x)) [
-      | inl f ↦ rw f (ap (λ t. cond (same before y q) true t) (has_placed x ys q) ∙ swapped (same before y q) (same before x q) (has_place before ys q))
-      | inr f ↦ rw f (twice (same before x q) (has_place before ys q) ∙ ap (λ t. cond (same before x q) true (cond t true (has_place before ys q))) (same_left x y q (both_same x y e f)))
-    ])
-  ]
+  has_placed x (y ∷ ys) q = grind (arith, has_placed x ys q, same_left x y q)
 
   pub has_listed : (xs : List X) (q : X) → has_place before (listed before xs) q ≡ has_place before xs q
   has_listed [] q = refl
-  has_listed (x ∷ xs) q = has_placed x (listed before xs) q ∙ ap (λ t. cond (same before x q) true t) (has_listed xs q)
+  has_listed (x ∷ xs) q = has_placed x (listed before xs) q ∙ ap (λ t. same before x q || t) (has_listed xs q)
 
-  sum_none : (xs : List X) (q : X) → sum_by (λ y. cond (same before y q) 1 0) xs ≡ 0 → has_place before xs q ≡ false
-  sum_none [] q h = refl
-  sum_none (y ∷ ys) q h =
-      let c = sum_by-cons (one before q) y ys in
-      elim (cases_Bool (same before y q)) [
-        | inl e ↦ let o : one before q y ≡ 1 = rw e refl in absurd (omega arith)
-        | inr e ↦ rw e (sum_none ys q (omega arith))
-      ]
+  -- how many more one is
+  count_more : (x : X) (xs : List X) (q : X) → count_by (λ y. same before y q) (x ∷ xs) ≡ one before q x + count_by (λ y. same before y q) xs
+  count_more x xs q = sum_by-cons (one before q) x xs
 
-  none_sum : (xs : List X) (q : X) → has_place before xs q ≡ false → sum_by (λ y. cond (same before y q) 1 0) xs ≡ 0
-  none_sum [] q h = refl
-  none_sum (y ∷ ys) q h =
-      let c = sum_by-cons (one before q) y ys in
-      elim (cases_Bool (same before y q)) [
-        | inl e ↦ let z : true ≡ false = rw e at h in absurd (true≢false z)
-        | inr e ↦ let g : has_place before ys q ≡ false = rw e at h in let o : one before q y ≡ 0 = rw e refl in let n = none_sum ys q g in omega arith
-      ]
+  none_counted : (xs : List X) (q : X) → count_by (λ y. same before y q) xs ≡ 0 → has_place before xs q ≡ false
+  none_counted [] q h = refl
+  none_counted (y ∷ ys) q h = grind (arith, count_more y ys q, none_counted ys q)
+
+  counted_none : (xs : List X) (q : X) → has_place before xs q ≡ false → count_by (λ y. same before y q) xs ≡ 0
+  counted_none [] q h = refl
+  counted_none (y ∷ ys) q h = grind (arith, count_more y ys q, counted_none ys q)
 
   pub once_behind : (x : X) (xs : List X) → Once before (x ∷ xs) → Once before xs
-  once_behind x xs h q = omega (arith, h q, sum_by-cons (one before q) x xs)
+  once_behind x xs h q = omega (arith, h q, count_more x xs q)
 
   once_none : (x : X) (xs : List X) → Once before (x ∷ xs) → has_place before xs x ≡ false
-  once_none x xs h =
-      let o : one before x x ≡ 1 = ap (λ t. cond t 1 0) (same_itself x) in
-      sum_none xs x (omega (arith, h x, sum_by-cons (one before x) x xs))
+  once_none x xs h = grind (arith, none_counted xs x, h x, count_more x xs x, itself x)
 
   has_same : (a b : X) → same before a b ≡ true → (xs : List X) → has_place before xs a ≡ has_place before xs b
   has_same a b h [] = refl
-  has_same a b h (y ∷ ys) = λ i. cond (same_right a b y h i) true (has_same a b h ys i)
+  has_same a b h (y ∷ ys) = λ i. same_right a b y h i || has_same a b h ys i
 
   pub once_more : (b : X) (xs : List X) → has_place before xs b ≡ false → Once before xs → Once before (b ∷ xs)
-  once_more b xs n h q =
-      let c = sum_by-cons (one before q) b xs in
-      elim (cases_Bool (same before b q)) [
-        | inl e ↦ let o : one before q b ≡ 1 = rw e refl in let z = none_sum xs q (sym (has_same b q e xs) ∙ n) in omega arith
-        | inr e ↦ let o : one before q b ≡ 0 = rw e refl in omega (arith, h q)
-      ]
+  once_more b xs n h q = grind (arith, count_more b xs q, counted_none xs q, has_same b q, h q)
 
   pub once_shuffled : (xs ys : List X) → IsPermutation xs ys → Once before xs → Once before ys
   once_shuffled xs ys s h q = omega (arith, h q, sum_by-IsPermutation (one before q) xs ys s)
@@ -196,28 +144,15 @@ module _ {X : Type 0} (before : X → X → Bool) (oneway : (a b : X) → before
 
   in_placed_self : (x : X) (m : List X) → In (placed before x m) x
   in_placed_self x [] = inl refl
-  in_placed_self x (y ∷ ys) = elim (cases_Bool (before x y)) [
-    | inl e ↦ rw e (inl refl)
-    | inr e ↦ rw e (elim (cases_Bool (before y x)) [ inl f ↦ rw f (inr (in_placed_self x ys)) | inr f ↦ rw f (inl refl) ])
-  ]
+  in_placed_self x (y ∷ ys) = grind (arith, in_placed_self x ys)
 
   in_placed : (x : X) (m : List X) (z : X) → same before z x ≡ false → In m z → In (placed before x m) z
   in_placed x [] z n h = absurd h
-  in_placed x (y ∷ ys) z n h = elim (cases_Bool (before x y)) [
-    | inl e ↦ rw e (inr h)
-    | inr e ↦ rw e (elim (cases_Bool (before y x)) [
-      | inl f ↦ rw f (elim h [ inl g ↦ inl g | inr g ↦ inr (in_placed x ys z n g) ])
-      | inr f ↦ rw f (elim h [ inl g ↦ absurd (both_ways (same before z x) n (subst (λ w. same before w x ≡ true) g (both_same y x f e))) | inr g ↦ inr g ])
-    ])
-  ]
+  in_placed x (y ∷ ys) z n h = grind (arith, in_placed x ys z)
 
   none_in : (xs : List X) (x z : X) → has_place before xs x ≡ false → In xs z → same before z x ≡ false
   none_in [] x z n h = absurd h
-  none_in (y ∷ ys) x z n h = elim (cases_Bool (same before y x)) [
-    | inl e ↦ let w : true ≡ false = rw e at n in absurd (true≢false w)
-    | inr e ↦ let m : has_place before ys x ≡ false = rw e at n in
-        elim h [ inl g ↦ subst (λ w. same before w x ≡ false) g e | inr g ↦ none_in ys x z m g ]
-  ]
+  none_in (y ∷ ys) x z n h = grind (arith, none_in ys x z)
 
   in_listed : (xs : List X) → Once before xs → (z : X) → In xs z → In (listed before xs) z
   in_listed [] o z h = absurd h
@@ -253,21 +188,9 @@ module _ {X : Type 0} (before : X → X → Bool) (oneway : (a b : X) → before
       (λ z h. in_listed ys (once_shuffled xs ys s o) z (shuffled_in ys xs (IsPermutation-sym xs ys s) z (listed_in xs z h)))
       (λ z h. in_listed xs o z (shuffled_in xs ys s z (listed_in ys z h)))
 
-  none_tail : (y : X) (ys : List X) (x : X) → has_place before (y ∷ ys) x ≡ false → has_place before ys x ≡ false
-  none_tail y ys x n = elim (cases_Bool (same before y x)) [
-    | inl e ↦ let w : true ≡ false = rw e at n in absurd (true≢false w)
-    | inr e ↦ let m : has_place before ys x ≡ false = rw e at n in m
-  ]
-
   length_placed : (x : X) (m : List X) → has_place before m x ≡ false → length (placed before x m) ≡ suc (length m)
   length_placed x [] n = refl
-  length_placed x (y ∷ ys) n = elim (cases_Bool (before x y)) [
-    | inl e ↦ rw e refl
-    | inr e ↦ rw e (elim (cases_Bool (before y x)) [
-      | inl f ↦ let m : has_place before ys x ≡ false = none_tail y ys x n in rw f (ap suc (length_placed x ys m))
-      | inr f ↦ absurd (both_ways (same before y x) (none_in (y ∷ ys) x y n (inl refl)) (both_same y x f e))
-    ])
-  ]
+  length_placed x (y ∷ ys) n = grind (arith, length_placed x ys)
 
   -- as many are listed as there are
   pub length_listed : (xs : List X) → Once before xs → length (listed before xs) ≡ length xs
@@ -288,35 +211,24 @@ module _ {X : Type 0} (before : X → X → Bool) (oneway : (a b : X) → before
   pub first_listed : (xs : List X) (x : X) (r : List X) → IsPermutation xs (x ∷ r) → First before x xs → Once before xs → listed before xs ≡ x ∷ listed before r
   first_listed xs x r s f o =
       let o' = once_shuffled xs (x ∷ r) s o in
-      let a = belong_all (λ z. before z x ≡ false) (x ∷ r) (belong_shuffled (λ z. before z x ≡ false) xs (x ∷ r) s f) in
+      let a = by_recursion (λ z. before z x ≡ false) (x ∷ r) (All-permutation (λ z. before z x ≡ false) xs (x ∷ r) s f) in
       same_listed xs (x ∷ r) s o ∙ placed_first x (listed before r) (all_listed (λ z. before x z ≡ true) r (ahead x r a.1 (once_none x r o')))
 
   placed_over : (y b : X) → same before y b ≡ true → (m : List X) → placed before b (placed before y m) ≡ placed before b m
-  placed_over y b h [] = let s = same_both y b h in rw (s.1, s.0) refl
-  placed_over y b h (z ∷ ms) =
-      let s = same_both y b h in
-      elim (cases_Bool (before y z)) [
-        | inl e ↦ let g : before b z ≡ true = sym (left_same y b z h) ∙ e in rw (e, s.1, s.0, g) refl
-        | inr e ↦ let g : before b z ≡ false = sym (left_same y b z h) ∙ e in
-            elim (cases_Bool (before z y)) [
-              | inl f ↦ let k : before z b ≡ true = sym (right_same y b z h) ∙ f in rw (e, f, g, k) (ap (λ w. z ∷ w) (placed_over y b h ms))
-              | inr f ↦ let k : before z b ≡ false = sym (right_same y b z h) ∙ f in rw (e, f, s.1, s.0, g, k) refl
-            ]
-      ]
+  placed_over y b h [] = grind arith
+  placed_over y b h (z ∷ ms) = grind (arith, left_same y b z, right_same y b z, placed_over y b h ms)
 
   -- one that is replaced by another with the same place
   pub set_listed : (xs : List X) (k : ℕ) (b d : X) → k < length xs → same before (get_or xs k d) b ≡ true → Once before xs → listed before (set xs k b) ≡ placed before b (listed before xs)
   set_listed xs k b d l e o =
-      let p = pull d xs k l in
-      same_listed (set xs k b) (b ∷ p.0) (p.2 b) (once_set xs k b d l e o)
-      ∙ sym (placed_over (get_or xs k d) b e (listed before p.0))
-      ∙ ap (placed before b) (sym (same_listed xs (get_or xs k d ∷ p.0) p.1 o))
+      let others = take k xs ++ drop (suc k) xs in
+      let was = subst (λ q. IsPermutation q (get_or xs k d ∷ others)) (set-get_or xs k d) (set_at xs k (get_or xs k d) l) in
+      same_listed (set xs k b) (b ∷ others) (set_at xs k b l) (once_set xs k b d l e o)
+      ∙ sym (placed_over (get_or xs k d) b e (listed before others))
+      ∙ ap (placed before b) (sym (same_listed xs (get_or xs k d ∷ others) was o))
 
   alike_set : (xs : List X) (k : ℕ) (b : X) → k < length xs → ((d : X) → same before (get_or xs k d) b ≡ true) → (i : ℕ) (d : X) → same before (get_or (set xs k b) i d) (get_or xs i d) ≡ true
-  alike_set xs k b l e i d = ⊎_elim
-      (λ z. ap (λ m. same before (get_or (set xs k b) m d) (get_or xs m d)) z ∙ ap (λ v. same before v (get_or xs k d)) (get_or-set_same xs k b d l) ∙ (let s = same_both (get_or xs k d) b (e d) in both_same b (get_or xs k d) s.1 s.0))
-      (λ z. ap (λ v. same before v (get_or xs i d)) (get_or-set_other xs k i b d z) ∙ same_itself (get_or xs i d))
-      (cases_eq i k)
+  alike_set xs k b l e i d = grind (arith, get_or-set_same xs k b d l, get_or-set_other xs k i b d, e d, itself (get_or xs i d))
 
   pub heaped_set : (xs : List X) (k : ℕ) (b : X) → k < length xs → ((d : X) → same before (get_or xs k d) b ≡ true) → Heaped before xs → Heaped before (set xs k b)
   heaped_set xs k b l e h p i d a a' f =
@@ -324,12 +236,5 @@ module _ {X : Type 0} (before : X → X → Bool) (oneway : (a b : X) → before
       ∙ right_same (get_or (set xs k b) p d) (get_or xs p d) (get_or xs i d) (alike_set xs k b l e p d)
       ∙ h p i d a a' (omega (arith, length-set xs k b))
 
-  -- none has the same place, place by place
-  pub none_places : (xs : List X) (b : X) → ((k : ℕ) (d : X) → k < length xs → same before (get_or xs k d) b ≡ false) → has_place before xs b ≡ false
-  none_places [] b f = refl
-  none_places (x ∷ xs) b f = let e : same before x b ≡ false = f 0 x (omega arith) in rw e (none_places xs b (λ k d l. f (suc k) d (omega arith)))
-
   pub some_place : (xs : List X) (b : X) (k : ℕ) (d : X) → k < length xs → same before (get_or xs k d) b ≡ true → has_place before xs b ≡ true
-  some_place [] b k d l e = absurd (omega arith)
-  some_place (x ∷ xs) b zero d l e = rw e refl
-  some_place (x ∷ xs) b (suc k) d l e = elim (cases_Bool (same before x b)) [ inl f ↦ rw f refl | inr f ↦ rw f (some_place xs b k d (omega arith) e) ]
+  some_place xs b k d l e = list_any-from_Any (λ y. same before y b) xs (k, get_or xs k d, l, get_or_default xs k (get_or xs k d) d l, e)

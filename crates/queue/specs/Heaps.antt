@@ -1,17 +1,7 @@
 -- What the contracts of the queue cite.
-use Rattle.std.specs.Prelude.{◌≡◌, ℕ, ◌+◌, ◌*◌, ◌<◌, ◌≤◌, min, Bool, false, List, length, slice_index_or}
-
--- the least number that a usize does not hold
-abbrev pub word_end : ℕ
-word_end = 18446744073709551616
-
--- how many elements a count speaks of: beyond the slice it is the slice's length
-abbrev pub held : {X : Type 0} → ℕ → List X → ℕ
-held count xs = min count (length xs)
-
--- each element belongs
-abbrev pub Belong : {X : Type 0} → (X → Type 0) → List X → Type 0
-Belong {X} P xs = (k : ℕ) (d : X) → k < length xs → P (slice_index_or xs k d)
+use Rattle.std.specs.Prelude.{◌≡◌, ◌↔◌, ℕ, ◌+◌, ◌-◌, ◌*◌, ◌<◌, ◌≤◌, Bool, false, List, ◌∷◌, length, take, drop, slice_index_or, All, Option, Result, IsOk, IsSome, OnOk, IfSome, MatchOption, MatchResult}
+use Rattle.std.specs.List.Sorted.{IsPermutation}
+use Rattle.queue.specs.declared.refusal.QueueRefusal.{QueueRefusal}
 
 -- among the first n, no element stands before its parent: the children of place p are at 2p + 1 and 2p + 2
 abbrev pub HeapedTo : {X : Type 0} → (X → X → Bool) → List X → ℕ → Type 0
@@ -31,4 +21,20 @@ Foremost {X} before xs j c = (k : ℕ) (d : X) → j * 2 + 1 ≤ k → k ≤ j *
 
 -- no element stands before x
 abbrev pub First : {X : Type 0} → (X → X → Bool) → X → List X → Type 0
-First {X} before x xs = (k : ℕ) (d : X) → k < length xs → before (slice_index_or xs k d) x ≡ false
+First before x xs = All (λ y. before y x ≡ false) xs
+
+-- putting x behind the first count of old answers so, and leaves new
+pub record Puts {X : Type 0} (belongs : X → Type 0) (before : X → X → Bool) (count : ℕ) (x : X) (old : List X) (answer : Result ℕ QueueRefusal) (new : List X) : Type 0 where
+  pub fits : IsOk answer ↔ (count < length old)
+  -- the elements afterwards are those before and x, each once; or nothing changed
+  pub items : MatchResult answer (λ n. (n ≡ count + 1) × IsPermutation (x ∷ take count old) (take (count + 1) new)) (λ _. new ≡ old)
+  pub rest : drop (count + 1) new ≡ drop (count + 1) old
+  pub heaped : OnOk answer (All belongs (x ∷ take count old) → Heaped before (take count old) → Heaped before (take (count + 1) new))
+
+-- taking one of the first n of old answers so, and leaves new
+pub record Takes {X : Type 0} (belongs : X → Type 0) (before : X → X → Bool) (n : ℕ) (old : List X) (answer : Option X) (new : List X) : Type 0 where
+  pub some : IsSome answer ↔ (0 < n)
+  -- the elements before are the one taken and those afterwards, each once; or nothing changed
+  pub items : MatchOption answer (new ≡ old) (λ x. IsPermutation (take n old) (x ∷ take (n - 1) new))
+  pub rest : drop n new ≡ drop n old
+  pub first : IfSome answer (λ x. All belongs (take n old) → Heaped before (take n old) → First before x (take n old) × Heaped before (take (n - 1) new))

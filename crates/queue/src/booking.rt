@@ -1,6 +1,6 @@
 // Bookings, and their order.
-ghost use Rattle.std.specs.Prelude.{◌≡◌, true, false};
-ghost use Rattle.queue.specs.Sooner.{sooner, sooner_oneway, sooner_chain};
+ghost use Rattle.std.specs.Prelude.{◌≡◌};
+ghost use Rattle.queue.specs.Sooner.{sooner, sooner_lawful};
 
 use crate::order::Order;
 use program::value::InputContent;
@@ -13,6 +13,15 @@ pub struct Booking {
     pub content: InputContent,
 }
 
+impl Booking {
+    /// The day and the input that it is for: by them bookings are ordered.
+    pub fn key(&self) -> (u16, u16)
+        ensures { result ≡ (self.now.day, self.now.input) }
+    {
+        (self.day, self.input)
+    }
+}
+
 /// By day, and then by input. Every booking belongs.
 #[derive(Clone, Copy)]
 pub struct BookingOrder;
@@ -22,13 +31,11 @@ impl Order for BookingOrder {
 
     ghost belongs = { λ _ _. Unit {0} };
 
-    ghost precedes = { λ _ a b. sooner a b };
-
-    ghost oneway = { λ _ a b _ _. sooner_oneway a b };
-
-    ghost chain = { λ _ a b c _ _ _. sooner_chain a b c };
+    ghost precedes = { λ _. sooner };
 
     fn before(&self, a: &Booking, b: &Booking) -> bool {
-        a.day < b.day || (a.day == b.day && a.input < b.input)
+        a.key() < b.key()
     }
+
+    ghost lawful = { λ _. sooner_lawful };
 }

@@ -1,5 +1,6 @@
 // Why the queue, and the bookings that wait in one, refuse a call.
 ghost use Rattle.std.specs.Prelude.{◌≡◌};
+ghost use Rattle.queue.specs.declared.refusal.BookingRefusal.TheVariants.{Full};
 ghost use Rattle.queue.specs.Refusals.{number_of, booking_number_of};
 
 /// Why an element is not put into a queue.
@@ -21,6 +22,7 @@ impl QueueRefusal {
 }
 
 /// Why a booking is not kept.
+// An enum beside the queue's, since each refusal is told by its own number.
 #[derive(Clone, Copy, PartialEq, Eq, Debug)]
 pub enum BookingRefusal {
     /// As many bookings wait as can, and none has this day and input.
@@ -34,6 +36,17 @@ impl BookingRefusal {
     {
         match self {
             BookingRefusal::Full => 17,
+        }
+    }
+}
+
+/// The queue of the bookings refuses one only where it is full.
+impl From<QueueRefusal> for BookingRefusal {
+    ghost from_gives = { λ _ r. r ≡ Full };
+
+    fn from(refusal: QueueRefusal) -> BookingRefusal {
+        match refusal {
+            QueueRefusal::Full => BookingRefusal::Full,
         }
     }
 }

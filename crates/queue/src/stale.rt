@@ -1,6 +1,5 @@
 // Stale reads, and their order.
-ghost use Rattle.std.specs.Prelude.{◌≡◌};
-ghost use Rattle.queue.specs.Stale.{Stands, stale_before, stale_oneway, stale_chain};
+ghost use Rattle.queue.specs.Stale.{Stands, stale_before, stale_lawful};
 
 use crate::order::Order;
 use order_list::list::OrderList;
@@ -12,7 +11,7 @@ pub struct StaleRead {
     pub start: usize,
 }
 
-/// By their start stamps in the list. A read belongs while the list is in order and its start stamp is a member.
+/// By their start stamps in the list. A read belongs while its start stamp is a member.
 #[derive(Drop)]
 pub struct StaleOrder<'a, O: OrderList> {
     pub list: &'a O,
@@ -21,15 +20,13 @@ pub struct StaleOrder<'a, O: OrderList> {
 impl<'a, O: OrderList> Order for StaleOrder<'a, O> {
     type Element = StaleRead;
 
-    ghost belongs = { λ s x. O.OrderList.sound s.list.now × Stands (O.OrderList.order s.list.now) x };
+    ghost belongs = { λ s. Stands (O.order s.list.now) };
 
-    ghost precedes = { λ s a b. stale_before (O.OrderList.order s.list.now) a b };
-
-    ghost oneway = { λ s a b p _. stale_oneway (O.OrderList.size s.list.now) (O.OrderList.order s.list.now) a b (O.OrderList.lawful s.list.now p.0) };
-
-    ghost chain = { λ s a b c p q r. stale_chain (O.OrderList.size s.list.now) (O.OrderList.order s.list.now) a b c (O.OrderList.lawful s.list.now p.0) p.1 q.1 r.1 };
+    ghost precedes = { λ s. stale_before (O.order s.list.now) };
 
     fn before(&self, a: &StaleRead, b: &StaleRead) -> bool {
         self.list.before(a.start, b.start)
     }
+
+    ghost lawful = { λ s. stale_lawful (O.size s.list.now) (O.order s.list.now) (O.lawful s.list.now) };
 }

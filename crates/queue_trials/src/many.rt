@@ -2,6 +2,7 @@
 use program::value::InputContent;
 use queue::booking::{Booking, BookingOrder};
 use queue::heap::{put, take};
+use queue::refusal::QueueRefusal;
 
 /// How many are tried.
 pub const MANY: usize = 1000;
@@ -16,33 +17,21 @@ pub(crate) fn of_day(day: u16) -> Booking {
 }
 
 /// The days below a thousand, mixed.
-fn mixed(i: usize) -> u16 {
-    (i % 1000 * 389 % 1000) as u16
+fn mixed(day: u16) -> u16 {
+    (u32::from(day) * 389 % 1000) as u16
 }
 
 /// Puts a booking of each day below a thousand into the queue, and answers how many it then has.
-pub(crate) fn fill(heap: &mut [Booking]) -> usize {
-    let mut count = 0;
-    for i in 0..MANY {
-        if let Ok(more) = put(&BookingOrder, heap, count, of_day(mixed(i))) {
-            count = more;
-        }
-    }
-    count
+pub(crate) fn fill(heap: &mut [Booking]) -> Result<usize, QueueRefusal> {
+    (0..MANY as u16).try_fold(
+        0,
+        |count, day| put(&BookingOrder, heap, count, of_day(mixed(day))),
+    )
 }
 
 /// Whether taking all answers the days in order.
 pub(crate) fn drains_in_order(heap: &mut [Booking], count: usize) -> bool {
-    let mut right = true;
-    for i in 0..count {
-        match take(&BookingOrder, heap, count - i) {
-            Some(b) => {
-                right = b.day as usize == i && right;
-            }
-            None => {
-                right = false;
-            }
-        }
-    }
-    right
+    (0..count).all(|day| {
+        take(&BookingOrder, heap, count - day).is_some_and(|b| usize::from(b.day) == day)
+    })
 }
