@@ -22,9 +22,6 @@ allowed c e =
       ]
     ]
 
-pub may_make : (c : ℕ) → 0 < c → c ≤ 4096 → make_refusal c ≡ None
-may_make c p l = rw (le-ltb c 1 p, le-ltb 4096 c l)
-
 -- place k of c just wiped
 abbrev pub born : ℕ → ℕ → Member
 born c k = record { used = eqb k 0; next = cond (eqb k 0) 0 (cond (eqb (suc k) c) 0 (suc k)); previous = 0; tag = 0 }

@@ -1,9 +1,10 @@
 -- A linked list in member places: following the links from the base gives the order.
 use Rattle.std.specs.Prelude.{◌≡◌, ℕ, zero, suc, ◌<◌, ◌≤◌, Bool, true, false, cond, not, List, [], ◌∷◌, length, ◌==◌, ◌≢◌, slice_index, slice_index_or, slice_set}
 use Rattle.order_list.specs.Refusals.{most_places}
-use Rattle.order_list.specs.Order.{has, Apart, Under, Based, Lawful}
+use Rattle.order_list.specs.Order.{has, Apart, Apart-prop, Under, Under-prop, Based, Based-prop, Lawful}
 use Rattle.chained_list.specs.declared.member.Member.{Member}
 use Rattle.chained_list.specs.Tags.{Tagged, tag_limit}
+use denote.Struct.Props.{props}
 
 -- a free place that links to none
 abbrev pub blank : Member
@@ -56,6 +57,10 @@ abbrev pub Linked : (ℕ → ℕ) → List ℕ → Type 0
 Linked f [] = Unit {0}
 Linked f (x ∷ xs) = (f x ≡ first xs) × Linked f xs
 
+pub Linked-prop : (f : ℕ → ℕ) (xs : List ℕ) → IsProp (Linked f xs)
+Linked-prop f [] = Prim.hlevel props
+Linked-prop f (x ∷ xs) = Prim.hlevel (Linked-prop f xs, props)
+
 -- the one behind a member links back to it, and the base, behind the last, to the last
 abbrev pub Backed : (ℕ → ℕ) → (ℕ → ℕ) → List ℕ → Type 0
 Backed f g xs = (x : ℕ) → has xs x ≡ true → g (f x) ≡ x
@@ -65,10 +70,18 @@ abbrev pub Over : (ℕ → ℕ) → ℕ → List ℕ → Type 0
 Over t b [] = Unit {0}
 Over t b (x ∷ xs) = (b < t x) × Over t b xs
 
+pub Over-prop : (t : ℕ → ℕ) (b : ℕ) (xs : List ℕ) → IsProp (Over t b xs)
+Over-prop t b [] = Prim.hlevel props
+Over-prop t b (x ∷ xs) = Prim.hlevel (Over-prop t b xs, props)
+
 -- tags rise along the list
 abbrev pub Rising : (ℕ → ℕ) → List ℕ → Type 0
 Rising t [] = Unit {0}
 Rising t (x ∷ xs) = Over t (t x) xs × Rising t xs
+
+pub Rising-prop : (t : ℕ → ℕ) (xs : List ℕ) → IsProp (Rising t xs)
+Rising-prop t [] = Prim.hlevel props
+Rising-prop t (x ∷ xs) = Prim.hlevel (Over-prop t (t x) xs, Rising-prop t xs, props)
 
 -- the links of the places go along the list xs
 pub record Strung (ps : List Member) (xs : List ℕ) : Type 0 where
@@ -106,6 +119,10 @@ pub record Sound (ps : List Member) (h : ℕ) : Type 0 where
   pub holds : Holds ps (order ps)
   pub cleared : (k : ℕ) → has (order ps) k ≡ false → (tag_of ps k ≡ 0) × (previous_of ps k ≡ 0)
   pub spare : Spare ps (order ps) h (chain ps h)
+
+-- it has one proof at most, so a list may keep it as a ghost field
+pub Sound-prop : (ps : List Member) (h : ℕ) → IsProp (Sound ps h)
+Sound-prop ps h = Prim.hlevel (Based-prop, Apart-prop, Under-prop, Linked-prop, Rising-prop, props)
 
 pub sound_lawful : {ps : List Member} {h : ℕ} → Sound ps h → Lawful (length ps) (order ps)
 sound_lawful s = let h = s.holds.strung in record { based = h.based; apart = h.apart; under = h.under; few = s.few }

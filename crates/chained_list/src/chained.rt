@@ -1,3 +1,5 @@
+ghost use Rattle.chained_list.specs.Chain.{Sound, Sound-prop};
+
 use crate::member::Member;
 use order_list::refusal::ListRefusal;
 use std::marker::PhantomData;
@@ -11,6 +13,8 @@ pub struct Chained<'a, L> {
     places: &'a mut [Member],
     free: usize,
     labels: PhantomData<L>,
+    /// The list is in order inside.
+    ghost sound: { Sound places.now free } by { Sound-prop places.now free },
 }
 
 /// No list was built: the places as they were, and why.

@@ -3,6 +3,7 @@ use Rattle.std.specs.Prelude.{◌≡◌, ℕ, ◌<◌, ◌≤◌, Bool, true, fa
 use Rattle.order_list.specs.declared.refusal.ListRefusal.{ListRefusal}
 use Rattle.order_list.specs.declared.refusal.ListRefusal.TheVariants.{NoMember, Full, Base, Places}
 use Rattle.order_list.specs.Refusals.{most_places}
+use denote.Struct.Props.{props}
 
 -- whether k is among xs
 abbrev pub has : List ℕ → ℕ → Bool
@@ -14,15 +15,27 @@ abbrev pub Apart : List ℕ → Type 0
 Apart [] = Unit {0}
 Apart (x ∷ xs) = (has xs x ≡ false) × Apart xs
 
+pub Apart-prop : (xs : List ℕ) → IsProp (Apart xs)
+Apart-prop [] = Prim.hlevel props
+Apart-prop (x ∷ xs) = Prim.hlevel (Apart-prop xs, props)
+
 -- each is below c
 abbrev pub Under : ℕ → List ℕ → Type 0
 Under c [] = Unit {0}
 Under c (x ∷ xs) = (x < c) × Under c xs
 
+pub Under-prop : (c : ℕ) (xs : List ℕ) → IsProp (Under c xs)
+Under-prop c [] = Prim.hlevel props
+Under-prop c (x ∷ xs) = Prim.hlevel (Under-prop c xs, props)
+
 -- the first is the base 0
 abbrev pub Based : List ℕ → Type 0
 Based [] = ⊥
 Based (x ∷ xs) = x ≡ 0
+
+pub Based-prop : (xs : List ℕ) → IsProp (Based xs)
+Based-prop [] = Prim.hlevel props
+Based-prop (x ∷ xs) = Prim.hlevel props
 
 -- the laws of an order list with the capacity c: different members below c, the base first, and c at most 4,096
 pub record Lawful (c : ℕ) (xs : List ℕ) : Type 0 where

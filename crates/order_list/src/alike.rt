@@ -14,8 +14,8 @@ pub struct Twin {
 /// Whether two lists answer alike, each by its own numbers: `before` of x and y, and whether a member stands behind x.
 /// Lists that were given the same calls, and answered those alike, do; nothing tells them apart.
 pub fn agree<A: OrderList, B: OrderList>(one: &A, other: &B, x: Twin, y: Twin) -> bool
-    ensures answer { A.OrderList.sound one.now → B.OrderList.sound other.now → result ≡ agrees (A.OrderList.order one.now) (B.OrderList.order other.now) x y }
-    ensures agreed { A.OrderList.sound one.now → B.OrderList.sound other.now → Agreed (A.OrderList.size one.now) (B.OrderList.size other.now) (A.OrderList.order one.now) (B.OrderList.order other.now) x y result }
+    ensures answer { result ≡ agrees (A.OrderList.order one.now) (B.OrderList.order other.now) x y }
+    ensures agreed { Agreed (A.OrderList.size one.now) (B.OrderList.size other.now) (A.OrderList.order one.now) (B.OrderList.order other.now) x y result }
     ensures alike { Alike (A.OrderList.size one.now) (B.OrderList.size other.now) (A.OrderList.order one.now) (B.OrderList.order other.now) }
 {
     let first = same(one.before(x.left, y.left), other.before(x.right, y.right));

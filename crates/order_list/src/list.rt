@@ -13,12 +13,6 @@ pub trait OrderList {
     /// The capacity.
     ghost size: { Self → ℕ };
 
-    /// The list is in order inside: its maker gives this, and every call keeps it.
-    ghost sound: { Self → Type 0 };
-
-    /// The laws of a list that is in order.
-    ghost lawful: { (s : Self) → sound s → Lawful (size s) (order s) };
-
     /// What a make pins besides, of what it stores: clearing s leaves t.
     ghost clears: { Self → Self → Type 0 };
 
@@ -34,33 +28,30 @@ pub trait OrderList {
 
     /// Leaves only the base.
     fn clear(&mut self)
-        requires { sound self.old }
         ensures only { order self.new ≡ 0 ∷ [] }
         ensures placed { clears self.old self.new }
-        ensures kept { sound self.new }
         ensures same { size self.new ≡ size self.old };
 
     /// Puts a number that was no member directly behind m, and answers it.
     fn insert_after(&mut self, m: usize) -> Result<usize, ListRefusal>
-        requires { sound self.old }
         ensures done { Inserted (size self.old) (order self.old) m result (order self.new) }
         ensures placed { inserts self.old m result self.new }
-        ensures kept { sound self.new }
         ensures same { size self.new ≡ size self.old };
 
     /// Takes m out; its number may be given again.
     fn remove(&mut self, m: usize) -> Result<(), ListRefusal>
-        requires { sound self.old }
         ensures done { Removed (order self.old) m result (order self.new) }
         ensures placed { removes self.old m result self.new }
-        ensures kept { sound self.new }
         ensures same { size self.new ≡ size self.old };
 
     /// Whether both are members and a stands earlier.
     fn before(&self, a: usize, b: usize) -> bool
-        ensures { sound self.now → result ≡ earlier (order self.now) a b };
+        ensures { result ≡ earlier (order self.now) a b };
 
     /// The member directly behind m; none where m is last or no member.
     fn next(&self, m: usize) -> Option<usize>
-        ensures { sound self.now → NextIs (order self.now) m result };
+        ensures { NextIs (order self.now) m result };
+
+    /// Every list is in order.
+    ghost lawful: { (s : Self) → Lawful (size s) (order s) };
 }

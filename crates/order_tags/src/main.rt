@@ -55,10 +55,7 @@ impl Walk {
 }
 
 /// Removes what stands behind the base, and tells the newest member then.
-fn remove_second<O: OrderList>(list: &mut O, last: usize) -> usize
-    requires { O.OrderList.sound list.old }
-    ensures { O.OrderList.sound list.new }
-{
+fn remove_second<O: OrderList>(list: &mut O, last: usize) -> usize {
     let Some(second) = list.next(0) else {
         return last;
     };
@@ -67,10 +64,7 @@ fn remove_second<O: OrderList>(list: &mut O, last: usize) -> usize
 }
 
 /// Does call i of the walk, and tells the newest member then.
-fn step<O: OrderList>(list: &mut O, walk: Walk, i: usize, last: usize) -> usize
-    requires { O.OrderList.sound list.old }
-    ensures { O.OrderList.sound list.new }
-{
+fn step<O: OrderList>(list: &mut O, walk: Walk, i: usize, last: usize) -> usize {
     if walk.removes(i) {
         return remove_second(list, last);
     }
@@ -81,10 +75,7 @@ fn step<O: OrderList>(list: &mut O, walk: Walk, i: usize, last: usize) -> usize
 }
 
 /// Does the calls of the walk.
-fn go<O: OrderList>(list: &mut O, walk: Walk, calls: usize)
-    requires { O.OrderList.sound list.old }
-    ensures { O.OrderList.sound list.new }
-{
+fn go<O: OrderList>(list: &mut O, walk: Walk, calls: usize) {
     let mut last = 0;
     for i in 0..calls {
         last = step(list, walk, i, last);

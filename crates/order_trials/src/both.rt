@@ -18,8 +18,6 @@ pub enum Both {
 
 /// Inserts behind one member in both lists. Lists of one capacity that were given the same calls do not differ, and go on alike.
 pub fn insert_in_both<A: OrderList, B: OrderList>(one: &mut A, other: &mut B, m: Twin) -> Both
-    requires { (A.OrderList.sound one.old) × (B.OrderList.sound other.old) }
-    ensures kept { A.OrderList.sound one.new × B.OrderList.sound other.new }
     ensures sizes { (A.OrderList.size one.new ≡ A.OrderList.size one.old) × (B.OrderList.size other.new ≡ B.OrderList.size other.old) }
     ensures done { Answered (A.OrderList.size one.old) (B.OrderList.size other.old) (A.OrderList.order one.old) (B.OrderList.order other.old) m (A.OrderList.order one.new) (B.OrderList.order other.new) result }
     ensures alike { (ns : List TwinOf) → A.OrderList.size one.old ≡ B.OrderList.size other.old → Together (A.OrderList.size one.old) (B.OrderList.size other.old) ns (A.OrderList.order one.old) (B.OrderList.order other.old) → Same ns (A.OrderList.order one.old) (B.OrderList.order other.old) m.left m.right → Continued (A.OrderList.size one.old) (B.OrderList.size other.old) ns (A.OrderList.order one.new) (B.OrderList.order other.new) result }

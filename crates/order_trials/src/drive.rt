@@ -9,10 +9,7 @@ fn pick(i: usize, capacity: usize) -> usize {
 }
 
 /// Removes m from both lists; whether they answer alike.
-fn remove_both<A: OrderList, B: OrderList>(one: &mut A, other: &mut B, m: usize) -> bool
-    requires { (A.OrderList.sound one.old) × (B.OrderList.sound other.old) }
-    ensures { A.OrderList.sound one.new × B.OrderList.sound other.new }
-{
+fn remove_both<A: OrderList, B: OrderList>(one: &mut A, other: &mut B, m: usize) -> bool {
     match (one.remove(m), other.remove(m)) {
         (Ok(_), Ok(_)) => true,
         (Err(e), Err(f)) => e == f,
@@ -21,10 +18,7 @@ fn remove_both<A: OrderList, B: OrderList>(one: &mut A, other: &mut B, m: usize)
 }
 
 /// Inserts behind m in both lists; whether they answer alike.
-fn insert_both<A: OrderList, B: OrderList>(one: &mut A, other: &mut B, m: usize) -> bool
-    requires { (A.OrderList.sound one.old) × (B.OrderList.sound other.old) }
-    ensures { A.OrderList.sound one.new × B.OrderList.sound other.new }
-{
+fn insert_both<A: OrderList, B: OrderList>(one: &mut A, other: &mut B, m: usize) -> bool {
     match (one.insert_after(m), other.insert_after(m)) {
         (Ok(n), Ok(k)) => n == k,
         (Err(e), Err(f)) => e == f,
@@ -33,10 +27,7 @@ fn insert_both<A: OrderList, B: OrderList>(one: &mut A, other: &mut B, m: usize)
 }
 
 /// Does call i on both lists: mostly insertions behind the base, some elsewhere, and each fifth removes.
-fn step<A: OrderList, B: OrderList>(one: &mut A, other: &mut B, i: usize) -> bool
-    requires { (A.OrderList.sound one.old) × (B.OrderList.sound other.old) }
-    ensures { A.OrderList.sound one.new × B.OrderList.sound other.new }
-{
+fn step<A: OrderList, B: OrderList>(one: &mut A, other: &mut B, i: usize) -> bool {
     let m = pick(i, one.capacity());
     if i % 5 == 4 {
         return remove_both(one, other, m);
@@ -45,10 +36,7 @@ fn step<A: OrderList, B: OrderList>(one: &mut A, other: &mut B, i: usize) -> boo
 }
 
 /// Does the calls on both lists, and says whether each answer was the same, and `before` and `next` after each call.
-pub(crate) fn drive<A: OrderList, B: OrderList>(one: &mut A, other: &mut B, calls: usize) -> bool
-    requires { (A.OrderList.sound one.old) × (B.OrderList.sound other.old) }
-    ensures { A.OrderList.sound one.new × B.OrderList.sound other.new }
-{
+pub(crate) fn drive<A: OrderList, B: OrderList>(one: &mut A, other: &mut B, calls: usize) -> bool {
     let mut alike = true;
     for i in 0..calls {
         let x = pick(i / 2, one.capacity());

@@ -1,6 +1,6 @@
 // The list in lent places as an order list.
 ghost use Rattle.std.specs.Prelude.{◌≡◌, length, MatchResult};
-ghost use Rattle.chained_list.specs.Chain.{Sound, order as order_in, sound_lawful};
+ghost use Rattle.chained_list.specs.Chain.{order as order_in, sound_lawful};
 ghost use Rattle.chained_list.specs.Contents.{Built, Kept, Cleared, InsertedPlaces, RemovedPlaces};
 
 use crate::chained::{Chained, Unbuilt};
@@ -33,9 +33,7 @@ impl<'a, L: Labelling> OrderList for Chained<'a, L> {
 
     ghost size = { λ s. length s.places.now };
 
-    ghost sound = { λ s. Sound s.places.now s.free };
-
-    ghost lawful = { λ s k. sound_lawful k };
+    ghost lawful = { λ s. sound_lawful s.sound };
 
     ghost clears = { λ s t. Cleared t.places.now t.free };
 

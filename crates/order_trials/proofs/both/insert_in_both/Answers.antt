@@ -7,7 +7,6 @@ returns-in-Ok-Ok g c =
     let p = c.in-Ok-Ok.ensures in
     let q = c.in-Ok-Ok.ensures' in
     record {
-      kept = (p.kept, q.kept);
       sizes = (p.same, q.same);
       done = (p.done, q.done);
       alike = λ ns e t s. both_done (g.A.OrderList.size c.args.one.now) (g.B.OrderList.size c.args.other.now) ns (g.A.OrderList.order c.args.one.now) (g.B.OrderList.order c.args.other.now)
@@ -19,7 +18,6 @@ returns-in-Ok-Err g c =
     let p = c.in-Ok-Err.ensures in
     let q = c.in-Ok-Err.ensures' in
     record {
-      kept = (p.kept, q.kept);
       sizes = (p.same, q.same);
       done = inr q.done.1;
       alike = λ ns e t s. not_left (g.A.OrderList.size c.args.one.now) (g.B.OrderList.size c.args.other.now) ns (g.A.OrderList.order c.args.one.now) (g.B.OrderList.order c.args.other.now)
@@ -31,7 +29,6 @@ returns-in-Err-Ok g c =
     let p = c.in-Err-Ok.ensures in
     let q = c.in-Err-Ok.ensures' in
     record {
-      kept = (p.kept, q.kept);
       sizes = (p.same, q.same);
       done = inl p.done.1;
       alike = λ ns e t s. not_right (g.A.OrderList.size c.args.one.now) (g.B.OrderList.size c.args.other.now) ns (g.A.OrderList.order c.args.one.now) (g.B.OrderList.order c.args.other.now)
