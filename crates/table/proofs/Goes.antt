@@ -6,8 +6,8 @@ use Rattle.program.specs.declared.value.Content.TheVariants.{Empty}
 use Rattle.trace.specs.Code.{Code, next, makes, resume, enter}
 use Rattle.trace.specs.Trace.{places}
 use Rattle.order_list.specs.Order.{Apart}
-use Rattle.code.specs.declared.args.Args.{Args}
-use Rattle.code.specs.Args.{listed}
+use Rattle.code.specs.Args.{Args}
+use Rattle.code.specs.Values.{listed}
 use Rattle.table.specs.declared.record.Record.{Record}
 use Rattle.table.specs.declared.record.Entry.{Entry}
 use Rattle.table.specs.declared.record.Entry.TheVariants.{Blank, New}

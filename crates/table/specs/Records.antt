@@ -6,7 +6,7 @@ use Rattle.program.specs.declared.value.Content.{Content}
 use Rattle.program.specs.declared.value.Content.TheVariants.{Empty}
 use Rattle.program.specs.declared.value.Value.{Value}
 use Rattle.trace.specs.Code.{Reader}
-use Rattle.code.specs.Args.{listed}
+use Rattle.code.specs.Values.{listed}
 use Rattle.code.specs.Readers.{reader_of}
 use Rattle.table.specs.declared.record.Record.{Record}
 use Rattle.table.specs.declared.record.Entry.{Entry}

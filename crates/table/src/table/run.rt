@@ -1,12 +1,11 @@
 // The run: how a table and a list are filled with the records of a program.
-ghost use Rattle.std.specs.Prelude.{◌≡◌, ◌<◌, [], ◌∷◌, length};
+ghost use Rattle.std.specs.Prelude.{◌≡◌, ◌+◌, ◌*◌, ◌<◌, ◌≤◌, [], ◌∷◌, length};
 ghost use Rattle.table.specs.Stamps.{Member, Moved};
 ghost use Rattle.program.specs.View.{viewed};
 ghost use Rattle.code.specs.Shown.{shown};
 ghost use Rattle.trace.specs.Code.{main};
-ghost use Rattle.table.specs.Changes.{SameInputs};
-ghost use Rattle.table.specs.Ran.{Open, Ending, Begins, HasEnded, Ends};
-ghost use Rattle.table.specs.Anew.{Sound, Anew};
+ghost use Rattle.table.specs.Ran.{Open, Ending, Begins, HasEnded, Ends, Keeps};
+ghost use Rattle.table.specs.Anew.{Anew};
 
 use crate::limit::Limit;
 use crate::record::{Entry, Record, TooLarge};
@@ -35,11 +34,9 @@ pub(crate) struct Written {
 
 /// A stamp directly behind the cursor.
 fn stamp<O: OrderList>(list: &mut O, cursor: u16) -> u16
-    requires sound { O.OrderList.sound list.old }
     requires member { Member (O.OrderList.order list.old) cursor }
     requires room { length (O.OrderList.order list.old) < O.OrderList.size list.old }
     ensures moved { Moved (O.OrderList.order list.old) cursor (result ∷ []) (O.OrderList.order list.new) result }
-    ensures sound { O.OrderList.sound list.new }
     ensures below { result < 4096 }
     ensures same { O.OrderList.size list.new ≡ O.OrderList.size list.old }
 {
@@ -57,12 +54,9 @@ impl Table {
         entry: Entry,
         cursor: u16,
     ) -> Result<Begun, TooLarge>
-        requires sound { O.OrderList.sound list.old }
-        requires room { Open self.old (O.OrderList.size list.old) (O.OrderList.order list.old) cursor }
+        requires { Open self.old (O.OrderList.size list.old) (O.OrderList.order list.old) cursor }
         ensures begins { Begins self.old self.new (O.OrderList.order list.old) (O.OrderList.order list.new) cursor entry result }
-        ensures inputs { SameInputs self.old self.new }
-        ensures sound { O.OrderList.sound list.new }
-        ensures same { O.OrderList.size list.new ≡ O.OrderList.size list.old }
+        ensures keeps { Keeps O.OrderList self.old self.new list.old list.new }
     {
         let place = self.take()?;
         let start = stamp(list, cursor);
@@ -86,10 +80,8 @@ impl Table {
         content: Content,
         cursor: u16,
     ) -> u16
-        requires sound { O.OrderList.sound list.old }
-        requires ending { Ending self.old (O.OrderList.size list.old) (O.OrderList.order list.old) cursor place }
+        requires { Ending self.old (O.OrderList.size list.old) (O.OrderList.order list.old) cursor place }
         ensures ended { HasEnded self.old self.new (O.OrderList.order list.old) (O.OrderList.order list.new) cursor place content result }
-        ensures sound { O.OrderList.sound list.new }
         ensures same { O.OrderList.size list.new ≡ O.OrderList.size list.old }
     {
         let end = stamp(list, cursor);
@@ -115,12 +107,9 @@ impl Table {
         destination: u16,
         cursor: u16,
     ) -> Result<Written, TooLarge>
-        requires sound { O.OrderList.sound list.old }
-        requires room { Open self.old (O.OrderList.size list.old) (O.OrderList.order list.old) cursor }
+        requires { Open self.old (O.OrderList.size list.old) (O.OrderList.order list.old) cursor }
         ensures ends { Ends (viewed program.now) (shown (viewed program.now) running) destination self.old self.new (O.OrderList.order list.old) (O.OrderList.order list.new) cursor result }
-        ensures inputs { SameInputs self.old self.new }
-        ensures sound { O.OrderList.sound list.new }
-        ensures same { O.OrderList.size list.new ≡ O.OrderList.size list.old }
+        ensures keeps { Keeps O.OrderList self.old self.new list.old list.new }
     {
         match running.next(program) {
             Next::Writes(content) => Ok(Written { content, cursor }),
@@ -167,12 +156,9 @@ impl Table {
         list: &mut O,
         program: &Program,
     ) -> Result<Written, TooLarge>
-        requires sound { O.OrderList.sound list.old }
-        requires room { Open self.old (O.OrderList.size list.old) (O.OrderList.order list.old) 0 }
+        requires { Open self.old (O.OrderList.size list.old) (O.OrderList.order list.old) 0 }
         ensures ends { Ends (viewed program.now) (main (viewed program.now)) 1024 self.old self.new (O.OrderList.order list.old) (O.OrderList.order list.new) 0 result }
-        ensures inputs { SameInputs self.old self.new }
-        ensures sound { O.OrderList.sound list.new }
-        ensures same { O.OrderList.size list.new ≡ O.OrderList.size list.old }
+        ensures keeps { Keeps O.OrderList self.old self.new list.old list.new }
     {
         let args = Args::of_run(program);
         let entry = Entry::New {
@@ -197,7 +183,7 @@ impl Table {
         program: &Program,
         limit: Limit,
     ) -> Result<u16, TooLarge>
-        requires { Sound O.OrderList limit.value self.old list.old }
+        requires { 4 * limit.value + 1 ≤ O.OrderList.size list.old }
         ensures anew { Anew O.OrderList (viewed program.now) limit.value self.old self.new list.new result }
         ensures same { O.OrderList.size list.new ≡ O.OrderList.size list.old }
     {

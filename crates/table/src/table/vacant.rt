@@ -63,8 +63,7 @@ impl Table {
 
     /// Takes all records out, and their stamps; as many may then be made as the limit says.
     pub(crate) fn clear<O: OrderList>(&mut self, list: &mut O, limit: Limit)
-        requires sound { O.OrderList.sound list.old }
-        requires wide { 4 * limit.value + 1 ≤ O.OrderList.size list.old }
+        requires { 4 * limit.value + 1 ≤ O.OrderList.size list.old }
         ensures cleared { Cleared O.OrderList limit.value self.old self.new list.new }
         ensures same { O.OrderList.size list.new ≡ O.OrderList.size list.old }
     {

@@ -1,25 +1,25 @@
 use Rattle.std.proofs.Common.{sym, refl, ◌∙◌, arith}
 use Rattle.program.specs.View.{viewed}
 use Rattle.table.proofs.Runs.{ran_write, ran_read, none_made, none_read, over_inside_new, over_inside_read, new_there, read_there}
-use Rattle.table.proofs.Steps.{same_trans, begun_open}
+use Rattle.table.proofs.Steps.{keeps_refl, keeps_trans, begun_open}
 use Rattle.table.proofs.Goes.{ends_over, begun_falls, may_end, may_go_on, ended_falls, ends_new}
 use Rattle.table.proofs.table.Table.+run.Goals as goal
 
 pub returns-in-Writes : goal.returns-in-Writes
-returns-in-Writes g t c = record { ends = ran_write (sym c.in-Writes.ensures) c.requires.room.ready; inputs = record { inputs = refl; noted = refl }; sound = c.requires.sound; same = refl }
+returns-in-Writes g t c = record { ends = ran_write (sym c.in-Writes.ensures) c.requires.ready; keeps = keeps_refl }
 
 -- ── a NEW ──
 
 pub returns-in_err-begun-in-Makes : goal.returns-in_err-begun-in-Makes
 returns-in_err-begun-in-Makes g t c =
     let b = c.in_err-begun-in-Makes.ensures in
-    record { ends = ends_over _ _ _ _ _ c.from_residual.result c.from_residual.ensures.0 (none_made (sym c.in-Makes.ensures) b.begins); inputs = b.inputs; sound = b.sound; same = b.same }
+    record { ends = ends_over _ _ _ _ _ c.from_residual.result c.from_residual.ensures.0 (none_made (sym c.in-Makes.ensures) b.begins); keeps = b.keeps }
 
 pub run-requires : goal.run-requires
 run-requires g t c κs within =
     let b = c.in_ok-begun-in-Makes.ensures in
     let h = begun_falls b.begins in
-    (omega (arith, c.decreases, h), (within, (b.sound, begun_open c.requires.room b.begins b.same)))
+    (omega (arith, c.decreases, h), (within, begun_open c.requires b.begins b.keeps.capacity))
 
 pub returns-in_err-wrote-in-Makes : goal.returns-in_err-wrote-in-Makes
 returns-in_err-wrote-in-Makes g t c =
@@ -28,16 +28,14 @@ returns-in_err-wrote-in-Makes g t c =
     record {
       ends = ends_over _ _ _ _ _ c.from_residual-in_err-wrote-in-Makes.result c.from_residual-in_err-wrote-in-Makes.ensures.0
           (over_inside_new (sym c.in-Makes.ensures) b.begins (c.enter-inner.ensures.code (viewed c.args.program.now)) r.ends);
-      inputs = same_trans b.inputs r.inputs;
-      sound = r.sound;
-      same = r.same ∙ b.same;
+      keeps = keeps_trans b.keeps r.keeps;
     }
 
 pub finish-end-requires : goal.finish-end-requires
 finish-end-requires g t c =
     let b = c.in_ok-begun-in-Makes.ensures in
     let r = c.in_ok-wrote-in-Makes.ensures in
-    record { sound = r.sound; ending = may_end c.requires.room b.begins new_there r.ends (r.same ∙ b.same) }
+    may_end c.requires b.begins new_there r.ends (r.keeps.capacity ∙ b.keeps.capacity)
 
 pub run-requires-in-Makes : goal.run-requires-in-Makes
 run-requires-in-Makes g t c κs within =
@@ -45,7 +43,7 @@ run-requires-in-Makes g t c κs within =
     let r = c.in_ok-wrote-in-Makes.ensures in
     let z = c.finish-end.ensures in
     let h = ended_falls b.begins r.ends z.ended in
-    (omega (arith, c.decreases, h), (within, (z.sound, may_go_on c.requires.room b.begins r.ends z.ended (z.same ∙ r.same ∙ b.same))))
+    (omega (arith, c.decreases, h), (within, may_go_on c.requires b.begins r.ends z.ended (z.same ∙ r.keeps.capacity ∙ b.keeps.capacity)))
 
 pub returns-in_ok-wrote-in-Makes : goal.returns-in_ok-wrote-in-Makes
 returns-in_ok-wrote-in-Makes g t c =
@@ -54,10 +52,8 @@ returns-in_ok-wrote-in-Makes g t c =
     let z = c.finish-end.ensures in
     let w = c.run-in-Makes.ensures in
     record {
-      ends = ends_new _ _ _ _ _ _ (sym c.in-Makes.ensures) b.begins (c.enter-inner.ensures.code (viewed c.args.program.now)) r.ends z.ended (c.resume-resumed.ensures (viewed c.args.program.now)) c.requires.room.member (g.O.OrderList.lawful _ w.sound).apart c.run-in-Makes.result w.ends;
-      inputs = same_trans (same_trans (same_trans b.inputs r.inputs) z.ended.sets.same) w.inputs;
-      sound = w.sound;
-      same = w.same ∙ z.same ∙ r.same ∙ b.same;
+      ends = ends_new _ _ _ _ _ _ (sym c.in-Makes.ensures) b.begins (c.enter-inner.ensures.code (viewed c.args.program.now)) r.ends z.ended (c.resume-resumed.ensures (viewed c.args.program.now)) c.requires.member (g.met.O.OrderList.lawful _).apart c.run-in-Makes.result w.ends;
+      keeps = keeps_trans (keeps_trans (keeps_trans b.keeps r.keeps) (record { inputs = z.ended.sets.same; capacity = z.same })) w.keeps;
     }
 
 -- ── a read ──
@@ -65,13 +61,13 @@ returns-in_ok-wrote-in-Makes g t c =
 pub returns-in_err-begun-in-Reads : goal.returns-in_err-begun-in-Reads
 returns-in_err-begun-in-Reads g t c =
     let b = c.in_err-begun-in-Reads.ensures in
-    record { ends = ends_over _ _ _ _ _ c.from_residual-in_err-begun-in-Reads.result c.from_residual-in_err-begun-in-Reads.ensures.0 (none_read (sym c.in-Reads.ensures) b.begins); inputs = b.inputs; sound = b.sound; same = b.same }
+    record { ends = ends_over _ _ _ _ _ c.from_residual-in_err-begun-in-Reads.result c.from_residual-in_err-begun-in-Reads.ensures.0 (none_read (sym c.in-Reads.ensures) b.begins); keeps = b.keeps }
 
 pub run-requires-in-Reads : goal.run-requires-in-Reads
 run-requires-in-Reads g t c κs within =
     let b = c.in_ok-begun-in-Reads.ensures in
     let h = begun_falls b.begins in
-    (omega (arith, c.decreases, h), (within, (b.sound, begun_open c.requires.room b.begins b.same)))
+    (omega (arith, c.decreases, h), (within, begun_open c.requires b.begins b.keeps.capacity))
 
 pub returns-in_err-wrote-in-Reads : goal.returns-in_err-wrote-in-Reads
 returns-in_err-wrote-in-Reads g t c =
@@ -80,16 +76,14 @@ returns-in_err-wrote-in-Reads g t c =
     record {
       ends = ends_over _ _ _ _ _ c.from_residual-in_err-wrote-in-Reads.result c.from_residual-in_err-wrote-in-Reads.ensures.0
           (over_inside_read (sym c.in-Reads.ensures) c.content-taken.ensures b.begins (c.enter-entered.ensures.code (viewed c.args.program.now)) r.ends);
-      inputs = same_trans b.inputs r.inputs;
-      sound = r.sound;
-      same = r.same ∙ b.same;
+      keeps = keeps_trans b.keeps r.keeps;
     }
 
 pub finish-end-requires-in-Reads : goal.finish-end-requires-in-Reads
 finish-end-requires-in-Reads g t c =
     let b = c.in_ok-begun-in-Reads.ensures in
     let r = c.in_ok-wrote-in-Reads.ensures in
-    record { sound = r.sound; ending = may_end c.requires.room b.begins read_there r.ends (r.same ∙ b.same) }
+    may_end c.requires b.begins read_there r.ends (r.keeps.capacity ∙ b.keeps.capacity)
 
 pub returns-in_ok-wrote-in-Reads : goal.returns-in_ok-wrote-in-Reads
 returns-in_ok-wrote-in-Reads g t c =
@@ -97,8 +91,6 @@ returns-in_ok-wrote-in-Reads g t c =
     let r = c.in_ok-wrote-in-Reads.ensures in
     let z = c.finish-end-in-Reads.ensures in
     record {
-      ends = ran_read (sym c.in-Reads.ensures) c.content-taken.ensures b.begins (c.enter-entered.ensures.code (viewed c.args.program.now)) r.ends z.ended c.requires.room.member (g.O.OrderList.lawful _ z.sound).apart;
-      inputs = same_trans (same_trans b.inputs r.inputs) z.ended.sets.same;
-      sound = z.sound;
-      same = z.same ∙ r.same ∙ b.same;
+      ends = ran_read (sym c.in-Reads.ensures) c.content-taken.ensures b.begins (c.enter-entered.ensures.code (viewed c.args.program.now)) r.ends z.ended c.requires.member (g.met.O.OrderList.lawful _).apart;
+      keeps = keeps_trans (keeps_trans b.keeps r.keeps) (record { inputs = z.ended.sets.same; capacity = z.same });
     }

@@ -6,12 +6,11 @@ use Rattle.table.proofs.table.Table.clear.Goals as goal
 pub returns : goal.returns
 returns g c =
     let l = c.clear.ensures in
-    let w = c.requires.wide in
+    let w = c.requires in
     let s = l.same in
     record {
       cleared = record {
         holding = record {
-          in_order = l.kept;
           standing = standing_in l.only (omega arith) (vacant c.args.limit.most (record {
             blank = λ q. ap (λ (r : Record). r.entry) (c.blanks-self.ensures.blank q);
             spares = c.places_for-self.ensures;

@@ -5,7 +5,6 @@ pub returns : goal.returns
 returns g c =
     let s = c.stamp-end.ensures in
     record {
-      ended = ended c.requires.ending c.record-record.ensures c.wrote.ensures s.moved s.below c.put.ensures.puts c.put.ensures.readers c.own.ensures;
-      sound = s.sound;
+      ended = ended c.requires c.record-record.ensures c.wrote.ensures s.moved s.below c.put.ensures.puts c.put.ensures.readers c.own.ensures;
       same = s.same;
     }

@@ -5,17 +5,17 @@ use Rattle.table.proofs.table.Table.run_anew.Goals as goal
 pub run_main-requires : goal.run_main-requires
 run_main-requires g c =
     let h = c.clear.ensures.cleared in
-    record { sound = h.holding.in_order; room = may_run h.holding.standing h.room h.same }
+    may_run h.holding.standing h.room h.same
 
 pub returns-in-Ok : goal.returns-in-Ok
 returns-in-Ok g c =
     let r = c.in-Ok.ensures in
     let h = c.clear.ensures in
-    record { anew = ran_anew h.cleared r.ends r.sound r.same c.value.ensures; same = r.same ∙ h.same }
+    record { anew = ran_anew h.cleared r.ends r.keeps.capacity c.value.ensures; same = r.keeps.capacity ∙ h.same }
 
 pub returns-in-Err : goal.returns-in-Err
 returns-in-Err g c =
     let r = c.in-Err.ensures in
     let h = c.clear.ensures in
     let k = c.clear-in-Err.ensures in
-    record { anew = exceeded h.cleared r.ends r.inputs k.cleared; same = k.same ∙ r.same ∙ h.same }
+    record { anew = exceeded h.cleared r.ends r.keeps.inputs k.cleared; same = k.same ∙ r.keeps.capacity ∙ h.same }
