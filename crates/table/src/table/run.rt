@@ -10,7 +10,6 @@ ghost use Rattle.table.specs.Anew.{Anew};
 use crate::limit::Limit;
 use crate::record::{Entry, Record, TooLarge};
 use crate::table::Table;
-use crate::table::places::wrote;
 use code::args::Args;
 use code::next::Next;
 use code::running::Running;
@@ -89,7 +88,7 @@ impl Table {
         self.put(
             place,
             Record {
-                entry: wrote(record.entry, content),
+                entry: record.entry.wrote(content),
                 start: record.start,
                 end,
             },

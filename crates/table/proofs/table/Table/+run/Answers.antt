@@ -1,4 +1,4 @@
-use Rattle.std.proofs.Common.{sym, refl, ◌∙◌, arith}
+use Rattle.std.proofs.Common.{sym, ◌∙◌, arith}
 use Rattle.program.specs.View.{viewed}
 use Rattle.table.proofs.Runs.{ran_write, ran_read, none_made, none_read, over_inside_new, over_inside_read, new_there, read_there}
 use Rattle.table.proofs.Steps.{keeps_refl, keeps_trans, begun_open}

@@ -1,7 +1,7 @@
 use Rattle.std.proofs.Common.{◌∙◌}
 use Rattle.program.specs.View.{viewed}
 use Rattle.table.proofs.Runs.{none_made, over_inside_new, new_there}
-use Rattle.table.proofs.Steps.{keeps_refl, keeps_trans, begun_open}
+use Rattle.table.proofs.Steps.{keeps_trans, begun_open}
 use Rattle.table.proofs.Goes.{ends_over, may_end}
 use Rattle.table.proofs.Mains.{behind, main_makes, ran_main}
 use Rattle.table.proofs.table.Table.run_main.Goals as goal
