@@ -59,13 +59,13 @@ module _ (p : Program) (is : List InputContent) (long : length is ≡ 256) (zero
 -- ── the sheet ──
 
 pub just_made : {X : Type 0} {g : Ghosts X} {p : Program} {n L : ℕ} {l : Limit} {t : Table} {x : X} → l.value ≡ L → Vacant l.value t → Zeros (viewed p) t.inputs → t.noted ≡ t.inputs →
-    g.sound x → g.order x ≡ 0 ∷ [] → 4 * L + 1 ≤ g.size x →
-    Shows g (record { program = p; number = n; limit = l; state = Unsettled; table = t; list = x }) (fresh (record { program = viewed p; number = n; limit = L }))
-just_made {g = g} {p} {n} {L} {l} {t} {x} el v z en so ox w =
+    g.order x ≡ 0 ∷ [] → (room : 4 * l.value + 1 ≤ g.size x) →
+    Shows g (record { program = p; number = n; limit = l; state = Unsettled; table = t; list = x; room = room }) (fresh (record { program = viewed p; number = n; limit = L }))
+just_made {g = g} {p} {n} {L} {l} {t} {x} el v z en ox w =
     let r = rest_zero p t.inputs t.wide z in
     record {
       keeps = sym (ap₂ (λ (is : List InputContent) (k : ℕ). record { made_of = record { program = viewed p; number = n; limit = k }; state = rests unsettled; inputs = is; bookings = [] }) (inputs_blank p t.inputs t.wide z) el);
-      holding = record { in_order = so; standing = standing_in ox (omega arith) v };
+      holding = record { standing = standing_in ox w v };
       traced = refl;
       rest = r;
       noted_rest = subst (RestEmpty (count_of_inputs p)) (sym en) r;

@@ -52,13 +52,13 @@ SettleHandsBack q (Err (instead.TooLarge p)) = Unit {0}
 -- ── what a call does ──
 
 -- from the model m the call c answered a, and the sheet s shows what it left
-pub record Done {X : Type 0} (g : Ghosts X) (m : Model) (c : Call) (a : Answer) (s : Sheet X) : Type 0 where
+pub record Done {X : Type 0} (g : Ghosts X) (m : Model) (c : Call) (a : Answer) (s : Sheet X g) : Type 0 where
   pub after : Model
   pub shows : Shows g s after
   pub does : Does m c a after
 
 -- the call c on the sheet s answered a and left s': whatever model s showed, the call did to it what it is to do
-pub record Serves {X : Type 0} (g : Ghosts X) (s : Sheet X) (c : Call) (a : Answer) (s' : Sheet X) : Type 0 where
+pub record Serves {X : Type 0} (g : Ghosts X) (s : Sheet X g) (c : Call) (a : Answer) (s' : Sheet X g) : Type 0 where
   pub serves : (m : Model) → Shows g s m → Done g m c a s'
 
 -- ── settles ──
@@ -70,5 +70,5 @@ pub record Plainly (m : Model) (c : Call) (a : Answer) (after : Model) : Type 0 
   pub holds : refusal m.keeps c ≡ none → (t : Trace) → plain_run_of m.keeps ≡ some t → HoldsPlain t after
 
 -- whatever model s showed, the settle c did to it what it is to do, and left the plain run
-pub record Settles {X : Type 0} (g : Ghosts X) (s : Sheet X) (c : Call) (a : Answer) (s' : Sheet X) : Type 0 where
+pub record Settles {X : Type 0} (g : Ghosts X) (s : Sheet X g) (c : Call) (a : Answer) (s' : Sheet X g) : Type 0 where
   pub settles : (m : Model) → Shows g s m → (d : Done g m c a s') × Plainly m c a d.after

@@ -1,6 +1,6 @@
 // The calls on a sheet.
 ghost use Rattle.std.specs.Prelude.{◌≡◌};
-ghost use Rattle.sheet.specs.Shows.{takes_pass, Sound};
+ghost use Rattle.sheet.specs.Shows.{takes_pass};
 ghost use Rattle.history.specs.Calls.{OPEN, POST, WITHDRAW, SETTLE, resting, unsettled, opened};
 ghost use Rattle.history.specs.History.{a_pass};
 ghost use Rattle.sheet.specs.Answers.{open_answer, rest_answer, settle_answer, HandsBack, SettleHandsBack, Serves, Settles};
@@ -78,7 +78,6 @@ impl<O: OrderList> Sheet<O> {
 
     /// Settles an open sheet: runs the program anew on its inputs.
     pub fn settle(&mut self, pass: OpenPass) -> Result<Settled, NotSettled>
-        requires { Sound O.OrderList self.old }
         ensures settles { Settles O.OrderList self.old (SETTLE (a_pass opened pass.0)) (settle_answer result) self.new }
         ensures back { SettleHandsBack pass result }
     {

@@ -27,7 +27,6 @@ impl<O: OrderList + Drop> Sheet<O> {
         number: u16,
         limit: u16,
     ) -> Result<UnsettledPass, Unmade<O>>
-        requires { O.OrderList.sound list }
         ensures { Makes O.OrderList place.old list program number limit result place.new }
     {
         let Some(allowed) = Limit::new(limit) else {

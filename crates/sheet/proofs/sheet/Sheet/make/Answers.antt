@@ -16,9 +16,9 @@ returns g c =
       not_refused (g.O.OrderList.size c.args.list) c.args.limit l.0 w,
       c.first.ensures,
       record {
-        sheet = record { program = c.args.program; number = c.args.number; limit = c.in-Some.allowed; state = _; table = c.new-table.result; list = c.clear.new.self };
+        sheet = record { program = c.args.program; number = c.args.number; limit = c.in-Some.allowed; state = _; table = c.new-table.result; list = c.clear.new.self; room = _ };
         placed = refl;
-        shows = just_made l.1 t.vacant t.inputs t.noted k.kept k.only (omega arith);
+        shows = just_made l.1 t.vacant t.inputs t.noted k.only _;
         same = s;
       },
     )
