@@ -93,10 +93,10 @@ take_set (suc c) i [] x = refl
 take_set (suc c) zero (y ∷ xs) x = refl
 take_set (suc c) (suc i) (y ∷ xs) x = ap (λ (l : List InputContent). y ∷ l) (take_set c i xs x)
 
-module _ {X : Type 0} {g : Ghosts X} (s : Sheet X g) (t : Table) (room : Room s) (n i : ℕ) (x : InputContent) where
-  pub posted_call : takes_pass s n Open ≡ true → unfit (made_of s) i x ≡ none → t.inputs ≡ set s.table.inputs i x → t.noted ≡ s.table.noted → Stays s.table t →
-      Serves g s (POST (a_pass opened n) i x) (gives (a_pass opened n)) (with s s.state t room)
-  posted_call tk fits ei en st = serves_from (λ o h.
+module _ {X : Type 0} {g : Ghosts X} (s : Sheet X g) (t : Table) (room : Room s) (n q i : ℕ) (x : InputContent) where
+  pub posted_call : q ≡ n → takes_pass s n Open ≡ true → unfit (made_of s) i x ≡ none → t.inputs ≡ set s.table.inputs i x → t.noted ≡ s.table.noted → Stays s.table t →
+      Serves g s (POST (a_pass opened n) i x) (gives (a_pass opened q)) (with s s.state t room)
+  posted_call eq tk fits ei en st = serves_from (λ o h.
       let b = takes_both s n Open tk in
       let c = count_of_inputs s.program in
       let is = s.table.inputs in
@@ -114,7 +114,7 @@ module _ {X : Type 0} {g : Ghosts X} (s : Sheet X g) (t : Table) (room : Room s)
         };
         does = served_call (ap (λ (k : Bool). unless (k && true) wrong_pass (unfit (made_of s) i x)) (bears_takes s n Open ∙ tk) ∙ fits) (record {
           leaves = ap (λ (k : Book). record { keeps = k; trace = o }) e;
-          answers = ap₂ (λ (k : ℕ) (j : State). gives (a_pass (book.sort_of (state_of j (take c t.noted))) k)) b.0 (sym b.1);
+          answers = ap₂ (λ (k : ℕ) (j : State). gives (a_pass (book.sort_of (state_of j (take c t.noted))) k)) (eq ∙ b.0) (sym b.1);
         });
       })
 

@@ -1,6 +1,7 @@
 // What a settle answers.
 ghost use Rattle.std.specs.Prelude.{◌≡◌};
 ghost use Rattle.sheet.specs.Answers.{mark_of};
+ghost use Rattle.sheet.specs.declared.settled.NotSettled.TheVariants.{Refused as NotSettledRefused};
 
 use crate::pass::{OpenPass, SettledPass, UnsettledPass};
 use crate::refusal::Refused;
@@ -41,4 +42,12 @@ pub struct Settled {
 pub enum NotSettled {
     Refused(Refused<OpenPass>),
     TooLarge(UnsettledPass),
+}
+
+impl From<Refused<OpenPass>> for NotSettled {
+    ghost from_gives = { λ refused answer. answer ≡ NotSettledRefused refused };
+
+    fn from(refused: Refused<OpenPass>) -> NotSettled {
+        NotSettled::Refused(refused)
+    }
 }
