@@ -1,8 +1,8 @@
 -- A sheet just made.
-use Rattle.std.proofs.Common.{◌≡◌, ℕ, ◌+◌, ◌-◌, ◌*◌, ◌≤◌, true, cond, ltb, List, [], ◌∷◌, ◌++◌, length, get_or, take, replicate, pos, None, sym, refl, ◌∙◌, subst, ap₂, inl, inr, arith, length-append, length-take}
+use Rattle.std.proofs.Common.{◌≡◌, ℕ, ◌+◌, ◌-◌, ◌*◌, ◌≤◌, cond, ltb, List, [], ◌∷◌, ◌++◌, length, get_or, take, replicate, pos, sym, refl, ◌∙◌, subst, ap₂, inl, inr, arith, length-append, length-take}
 use lib.ListN.{length-replicate, get_or-replicate}
 use Rattle.std.proofs.lemmas.List.{same_lists, get_or_default, get_or_append_left, get_or-append_right, get_or-take}
-use Rattle.std.proofs.lemmas.Bool.{cases_lt, lt-ltb, le-ltb, le-leb}
+use Rattle.std.proofs.lemmas.Bool.{cases_lt, lt-ltb, le-ltb}
 use Rattle.program.specs.declared.program.Program.{Program}
 use Rattle.program.specs.View.{viewed}
 use Rattle.program.proofs.Sound.{sound}
@@ -19,8 +19,6 @@ use Rattle.table.proofs.Vacancy.{standing_in}
 use Rattle.table.proofs.Zeroed.{all_alike}
 use Rattle.sheet.specs.declared.sheet.State.TheVariants.{Unsettled}
 use Rattle.sheet.specs.Shows.{count_of_inputs, RestEmpty, Shows}
-use Rattle.sheet.specs.Making.{sheet_refusal}
-use Rattle.table.specs.Limits.{allowed}
 
 -- ── the inputs ──
 
@@ -70,6 +68,3 @@ just_made {g = g} {p} {n} {L} {l} {t} {x} el v z en ox w =
       rest = r;
       noted_rest = subst (RestEmpty (count_of_inputs p)) (sym en) r;
     }
-
-pub not_refused : (c L : ℕ) → allowed L ≡ true → 4 * L + 1 ≤ c → sheet_refusal c L ≡ None
-not_refused c L a w = let t = le-leb (4 * L + 1) c w in rw (a, t)
