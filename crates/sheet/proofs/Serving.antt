@@ -31,14 +31,6 @@ serves_from {g = g} {s} {s'} {c} {a} f = record {
       subst (λ (k : Model). Done g k c a s') (sym e) (f m.trace (subst (Shows g s) e h));
 }
 
--- a call that is refused
-pub refused_call : {X : Type 0} {g : Ghosts X} (s : Sheet X g) (c : Call) (r : Refusal) → refusal (kept_book s) c ≡ some r → Serves g s c (refused r) s
-refused_call s c r e = serves_from (λ o h. record {
-  after = model s o;
-  shows = h;
-  does = record { does = subst (λ (k : Option Refusal). RefusedOr k (model s o) c (refused r) (model s o)) (sym e) (record { leaves = refl; answers = refl }) };
-})
-
 -- a call that is served
 pub served_call : {s s' : Model} {c : Call} {a : Answer} → refusal s.keeps c ≡ none → history.Serves s c a s' → Does s c a s'
 served_call {s} {s'} {c} {a} e h = record { does = subst (λ (k : Option Refusal). RefusedOr k s c a s') (sym e) h }

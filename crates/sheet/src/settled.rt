@@ -10,9 +10,9 @@ use crate::refusal::Refused;
 #[derive(Clone, Copy, PartialEq, Eq, Debug)]
 pub enum Mark {
     /// The records that stood had their turns.
-    ByTurns,
+    ByTurns = 1,
     /// Nothing stood, and all was run anew.
-    Anew,
+    Anew = 2,
 }
 
 impl Mark {
@@ -20,10 +20,7 @@ impl Mark {
     pub fn number(self) -> u8
         ensures { result ≡ mark_of self }
     {
-        match self {
-            Mark::ByTurns => 1,
-            Mark::Anew => 2,
-        }
+        self as u8
     }
 }
 
