@@ -64,7 +64,7 @@ module _ {L c : ℕ} {a a₁ : Table} {xs : List ℕ} (st : Standing L c a₁ xs
   may_run =
       let l = ap length st.listed in let n = st.counted in let w = st.wide in
       record {
-        ready = record { free = st.free; tied = st.tied; enough = omega arith };
+        ready = record { free = st.free; tied = st.tied };
         member = record { pre = []; post = []; split = st.listed };
         stamps = omega arith;
       }

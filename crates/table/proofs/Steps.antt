@@ -39,7 +39,6 @@ free_less : {a b : Table} → Free a → b.spare ≡ a.spare → b.spares ≤ a.
 free_less {a} {b} y e less same =
     let to : (i : ℕ) → i < b.spares → i < a.spares = λ i k. omega arith in
     record {
-      few = (let z = y.few in omega arith);
       below = λ i k. subst (λ (q : ℕ). q < 1024) (sym (number_is e i)) (y.below i (to i k));
       blank = λ i k. ap (λ (q : ℕ). (at b q).entry) (number_is e i) ∙ same i k ∙ y.blank i (to i k);
       apart = λ i j l k z. y.apart i j l (to j k) (sym (number_is e i) ∙ z ∙ number_is e j);
@@ -107,7 +106,6 @@ ready_owns : {a b : Table} {k p : ℕ} → Ready a → Owns a b k p → Ready b
 ready_owns {a} {b} y h = record {
   free = (let e = h.spares in free_less y.free h.spare (omega arith) (λ i l. ap (λ (r : Record). r.entry) (record_is h.records _)));
   tied = tied_same y.tied h.readers (λ q. ap (λ (r : Record). source_of r.entry) (record_is h.records q));
-  enough = (let e = h.spares in let f = h.room in let z = y.enough in omega arith);
 }
 
 -- ── a record begins ──
@@ -129,7 +127,6 @@ begun {a} {t} {b} {b'} {c} {xs} {ys} {cursor} {p} {m} e o k mv lt h n w =
       free = (let e₁ = h.spares in let e₂ = k.spares in free_less y.free (h.spare ∙ k.spare) (omega arith)
           (λ i l. ap (λ (r : Record). r.entry) (s₀.others _ (still_others y k i (omega arith)))));
       tied = tied_enter (took_tied y k) n (ap (λ (r : Record). r.entry) (took_at y k p) ∙ took_blank y k) s.here s.others;
-      enough = (let e₁ = h.spares in let e₂ = k.spares in let f₁ = h.room in let f₂ = k.room in let z = y.enough in omega arith);
     } in
     record {
       blank = took_blank y k;
@@ -165,7 +162,6 @@ ended {a} {b} {b'} {c} {xs} {ys} {cursor} {p} {m} {x} {r} {e} o is re mv lt h n 
       free = (let e₁ = h.spares in free_less y.free h.spare (omega arith)
           (λ i l. ap (λ (q : Record). q.entry) (s.others _ (λ z. o.there (ap (λ (q : ℕ). (at a q).entry) (sym z) ∙ y.free.blank i (omega arith))))));
       tied = tied_put y s₀;
-      enough = (let e₁ = h.spares in let f₁ = h.room in let z = y.enough in omega arith);
     } in
     record {
       sets = sets_owns s₀ w;

@@ -27,8 +27,6 @@ impl Table {
 
     /// Takes a free place for a record.
     pub(crate) fn take(&mut self) -> Result<u16, TooLarge>
-        requires few { self.old.spares ≤ 1024 }
-        requires enough { self.old.room ≤ self.old.spares }
         ensures { Takes self.old self.new result }
     {
         if self.room == 0 {
