@@ -11,19 +11,27 @@ use Rattle.table.specs.Rings.{Unlinked}
 use Rattle.table.specs.Stamps.{Moved}
 use Rattle.table.specs.Standing.{at, Free, Tied}
 use Rattle.table.specs.Changes.{SameInputs, Took, Puts, Enters, Owns}
-use Rattle.table.specs.Ran.{Keeps, Ready, Open, Ending, Sets, OwnedBy, HasBegun, HasEnded}
+use Rattle.table.specs.Ran.{Ready, Open, Ending, Sets, OwnedBy, HasBegun, HasEnded}
 use Rattle.order_list.specs.declared.list.OrderList.{Ghosts}
+use Rattle.table.specs.declared.table.run.Run.{Run}
+use Rattle.table.specs.Runs.{Keeps}
 use Rattle.table.proofs.Lists.{moved_member, moved_length}
 use Rattle.table.proofs.Ties.{unlinked, tied_same, tied_enter, source_wrote}
 
 pub same_trans : {a b c : Table} → SameInputs a b → SameInputs b c → SameInputs a c
 same_trans h k = record { inputs = k.inputs ∙ h.inputs; noted = k.noted ∙ h.noted }
 
-pub keeps_refl : {X : Type 0} {g : Ghosts X} {a : Table} {x : X} → Keeps g a a x x
-keeps_refl = record { inputs = record { inputs = refl; noted = refl }; capacity = refl }
+pub keeps_refl : {X : Type 0} {g : Ghosts X} {a : Run X} → Keeps g a a
+keeps_refl = record { inputs = record { inputs = refl; noted = refl }; capacity = refl; program = refl; table = refl; list = refl }
 
-pub keeps_trans : {X : Type 0} {g : Ghosts X} {a b c : Table} {x y z : X} → Keeps g a b x y → Keeps g b c y z → Keeps g a c x z
-keeps_trans h k = record { inputs = same_trans h.inputs k.inputs; capacity = k.capacity ∙ h.capacity }
+pub keeps_trans : {X : Type 0} {g : Ghosts X} {a b c : Run X} → Keeps g a b → Keeps g b c → Keeps g a c
+keeps_trans h k = record {
+  inputs = same_trans h.inputs k.inputs;
+  capacity = k.capacity ∙ h.capacity;
+  program = k.program ∙ h.program;
+  table = k.table ∙ h.table;
+  list = k.list ∙ h.list;
+}
 
 record_is : {xs ys : List Record} → ys ≡ xs → (q : ℕ) → get_or ys q blank ≡ get_or xs q blank
 record_is e q = ap (λ (rs : List Record). get_or rs q blank) e

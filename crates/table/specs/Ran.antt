@@ -7,7 +7,6 @@ use Rattle.trace.specs.Trace.{Trace, written, places, size, after, Absent, Disti
 use Rattle.trace.specs.Run.{Run}
 use Rattle.trace.specs.Over.{Over}
 use Rattle.order_list.specs.Order.{has}
-use Rattle.order_list.specs.declared.list.OrderList.{Ghosts}
 use Rattle.table.specs.declared.record.Record.{Record}
 use Rattle.table.specs.declared.record.Entry.{Entry}
 use Rattle.table.specs.declared.record.Entry.TheVariants.{Blank}
@@ -73,11 +72,6 @@ pub record HasEnded (a b : Table) (xs ys : List ℕ) (cursor n : ℕ) (x : Conte
   pub spares : b.spares ≡ a.spares
   pub ready : Ready b
   pub moved : Moved xs cursor (m ∷ []) ys m
-
--- what no step of a run changes: the inputs, and the capacity of the list, whose meaning is g
-pub record Keeps {X : Type 0} (g : Ghosts X) (a b : Table) (x y : X) : Type 0 where
-  pub inputs : SameInputs a b
-  pub capacity : g.size y ≡ g.size x
 
 -- the run of the code c has left a trace at free places, and its stamps directly behind the cursor; all else is as it was. It wrote x to
 -- its destination, the modifiable of the NEW at the place d
