@@ -1,3 +1,2 @@
-pub mod Held
 pub mod Sounds
 pub mod Steps

@@ -1,4 +1,5 @@
 pub mod Args
+pub mod Values
 pub mod Readers
 pub mod Shown
 pub mod Told

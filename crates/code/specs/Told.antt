@@ -6,7 +6,7 @@ use Rattle.trace.specs.Code as trace
 use Rattle.code.specs.declared.next.Next.{Next}
 use Rattle.code.specs.declared.next.Next.TheVariants.{Writes, Makes, Reads}
 use Rattle.code.specs.declared.running.Running.{Running}
-use Rattle.code.specs.Args.{listed}
+use Rattle.code.specs.Values.{listed}
 use Rattle.code.specs.Readers.{reader_of}
 use Rattle.code.specs.Shown.{held, shown_waiting}
 

@@ -5,3 +5,4 @@ pub mod args;
 pub mod next;
 pub mod reader;
 pub mod running;
+pub mod values;

@@ -1,9 +1,8 @@
 ghost use Rattle.std.specs.Prelude.{◌≡◌};
-ghost use Rattle.program.specs.View.{View};
 ghost use Rattle.program.specs.declared.value.Value.TheVariants.{Number as NumberValue};
-ghost use Rattle.trace.specs.Code.{enter, entered, arguments, content_number};
+ghost use Rattle.trace.specs.Code.{entered, arguments, content_number};
 ghost use Rattle.code.specs.Readers.{reader_of};
-ghost use Rattle.code.specs.Shown.{held, shown};
+ghost use Rattle.code.specs.Shown.{Entered};
 
 use crate::args::Args;
 use crate::running::Running;
@@ -31,9 +30,7 @@ fn number_of(taken: Content) -> Value
 impl Reader {
     /// Enters the function that goes on with the content.
     pub fn enter(self, taken: Content) -> Running
-        ensures code { (P : View) → shown P result ≡ enter P (entered (reader_of self) taken) (arguments (reader_of self) taken) }
-        ensures function { result.function ≡ entered (reader_of self) taken }
-        ensures values { held result ≡ arguments (reader_of self) taken }
+        ensures { Entered (entered (reader_of self) taken) (arguments (reader_of self) taken) result }
     {
         match self {
             Reader::Get { function, args } => {

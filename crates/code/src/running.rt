@@ -1,6 +1,7 @@
-ghost use Rattle.std.specs.Prelude.{◌≡◌, ◌+◌, ◌≤◌, length};
+ghost use Rattle.std.specs.Prelude.{◌+◌, ◌≤◌, length};
+ghost use Rattle.code.specs.Values.{listed};
 
-use program::value::Value;
+use crate::values::Values;
 
 pub mod methods;
 pub mod steps;
@@ -12,23 +13,16 @@ pub const MOST_REGISTERS: usize = 24;
 /// A function while it runs: the registers so far, its number, and which of its commands is next.
 #[derive(Clone, Copy)]
 pub struct Running {
-    registers: [Value; MOST_REGISTERS],
-    count: u8,
+    registers: Values<MOST_REGISTERS>,
     function: u8,
     at: u8,
-    ghost long: { length registers ≡ 24 },
-    ghost room: { count ≤ 8 + at },
+    ghost room: { length (listed registers) ≤ 8 + at },
     ghost few: { at ≤ 16 },
 }
 
 /// A function that waits behind a NEW for the modifiable that is being made: there is room for its register.
 #[derive(Clone, Copy)]
 pub struct Waiting {
-    registers: [Value; MOST_REGISTERS],
-    count: u8,
-    function: u8,
-    at: u8,
-    ghost long: { length registers ≡ 24 },
-    ghost room: { count + 1 ≤ 8 + at },
-    ghost few: { at ≤ 16 },
+    running: Running,
+    ghost room: { length (listed running.registers) + 1 ≤ 8 + running.at },
 }

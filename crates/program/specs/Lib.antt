@@ -6,3 +6,4 @@ pub mod Formed
 pub mod View
 pub mod Sound
 pub mod Checks
+pub mod Contents

@@ -1,5 +1,5 @@
 -- What each call does, from what its parts say.
-use Rattle.std.proofs.Common.{◌≡◌, ℕ, zero, suc, ◌<◌, Bool, true, ◌&&◌, ltb, ◌⊎◌, List, [], ◌∷◌, get_or, take, set, sym, refl, ap, ◌∙◌, subst, ap₂, inl, inr, arith, get_or-set_other}
+use Rattle.std.proofs.Common.{◌≡◌, ℕ, zero, suc, ◌+◌, ◌*◌, ◌<◌, ◌≤◌, Bool, true, ◌&&◌, ltb, ◌⊎◌, List, [], ◌∷◌, get_or, take, set, sym, refl, ap, ◌∙◌, subst, ap₂, inl, inr, arith, get_or-set_other}
 use mathlib.Core.Option.{Option, some, none}
 use Rattle.std.proofs.lemmas.Bool.{cases_Bool, ltb-true}
 use Rattle.program.specs.declared.value.InputContent.{InputContent}
@@ -20,14 +20,18 @@ use Rattle.sheet.specs.Refusals.{made_with}
 use Rattle.sheet.specs.Answers.{Serves}
 use Rattle.sheet.proofs.Serving.{model, serves_from, served_call, bears_takes, takes_both}
 
+-- whether the list of a sheet has room
+abbrev pub Room : {X : Type 0} {g : Ghosts X} → Sheet X g → Type 0
+Room {g = g} s = 4 * s.limit.value + 1 ≤ g.size s.list
+
 -- the sheet with another state and table
-abbrev pub with : {X : Type 0} → Sheet X → State → Table → Sheet X
-with s k t = record { program = s.program; number = s.number; limit = s.limit; state = k; table = t; list = s.list }
+abbrev pub with : {X : Type 0} {g : Ghosts X} (s : Sheet X g) → State → Table → Room s → Sheet X g
+with s k t r = record { program = s.program; number = s.number; limit = s.limit; state = k; table = t; list = s.list; room = r }
 
 -- ── what stays ──
 
 holding_stays : {X : Type 0} {g : Ghosts X} {L : ℕ} {a b : Table} {x : X} {u : Trace} → Stays a b → Holding g L a x u → Holding g L b x u
-holding_stays s h = record { in_order = h.in_order; standing = s.stays _ _ _ _ h.standing }
+holding_stays s h = record { standing = s.stays _ _ _ _ h.standing }
 
 pub rest_same : (n : ℕ) {is js : List InputContent} → js ≡ is → RestEmpty n is → RestEmpty n js
 rest_same n e h k l = ap (λ (xs : List InputContent). get_or xs k Empty) e ∙ h k l
@@ -36,25 +40,25 @@ rest_set : (n i : ℕ) (is : List InputContent) (x : InputContent) → i < n →
 rest_set n i is x below h k l = get_or-set_other is i k x Empty (λ z. absurd (omega arith)) ∙ h k l
 
 -- a sheet that is not settled has no trace
-pub no_trace : {X : Type 0} {g : Ghosts X} {s : Sheet X} {o : Option Trace} → Shows g s (model s o) → (s.state ≡ Unsettled) ⊎ (s.state ≡ Open) → o ≡ none
+pub no_trace : {X : Type 0} {g : Ghosts X} {s : Sheet X g} {o : Option Trace} → Shows g s (model s o) → (s.state ≡ Unsettled) ⊎ (s.state ≡ Open) → o ≡ none
 no_trace {s = s} {o} h (inl e) = subst (λ (k : State). Traced k (kept_book s) o) e h.traced
 no_trace {s = s} {o} h (inr e) = subst (λ (k : State). Traced k (kept_book s) o) e h.traced
 
 -- ── open ──
 
-module _ {X : Type 0} {g : Ghosts X} (s : Sheet X) (t : Table) (n q : ℕ) where
+module _ {X : Type 0} {g : Ghosts X} (s : Sheet X g) (t : Table) (room : Room s) (n q : ℕ) where
   pub opened_call : q ≡ n → takes_pass s n Unsettled ≡ true → t.noted ≡ s.table.inputs → t.inputs ≡ s.table.inputs → Stays s.table t →
-      Serves g s (OPEN (a_pass (resting unsettled) n)) (gives (a_pass opened q)) (with s Open t)
+      Serves g s (OPEN (a_pass (resting unsettled) n)) (gives (a_pass opened q)) (with s Open t room)
   opened_call eq tk en ei st = serves_from (λ o h.
       let b = takes_both s n Unsettled tk in
       let c = count_of_inputs s.program in
       let is = s.table.inputs in
       let after : Book = record { made_of = made_of s; state = open_since unsettled (take c is); inputs = take c is; bookings = [] } in
-      let e₁ : kept_book (with s Open t) ≡ after =
+      let e₁ : kept_book (with s Open t room) ≡ after =
       ap₂ (λ (js ks : List InputContent). record { made_of = made_of s; state = open_since unsettled (take c js); inputs = take c ks; bookings = [] }) en ei in
       let e₂ : opening (kept_book s) (kept_book s).state ≡ after = ap (λ (k : State). opening (kept_book s) (state_of k (take c s.table.noted))) b.1 in
       record {
-        after = model (with s Open t) o;
+        after = model (with s Open t room) o;
         shows = record {
           keeps = refl;
           holding = holding_stays st h.holding;
@@ -89,46 +93,46 @@ take_set (suc c) i [] x = refl
 take_set (suc c) zero (y ∷ xs) x = refl
 take_set (suc c) (suc i) (y ∷ xs) x = ap (λ (l : List InputContent). y ∷ l) (take_set c i xs x)
 
-module _ {X : Type 0} {g : Ghosts X} (s : Sheet X) (t : Table) (n i : ℕ) (x : InputContent) where
-  pub posted_call : takes_pass s n Open ≡ true → unfit (made_of s) i x ≡ none → t.inputs ≡ set s.table.inputs i x → t.noted ≡ s.table.noted → Stays s.table t →
-      Serves g s (POST (a_pass opened n) i x) (gives (a_pass opened n)) (with s s.state t)
-  posted_call tk fits ei en st = serves_from (λ o h.
+module _ {X : Type 0} {g : Ghosts X} (s : Sheet X g) (t : Table) (room : Room s) (n q i : ℕ) (x : InputContent) where
+  pub posted_call : q ≡ n → takes_pass s n Open ≡ true → unfit (made_of s) i x ≡ none → t.inputs ≡ set s.table.inputs i x → t.noted ≡ s.table.noted → Stays s.table t →
+      Serves g s (POST (a_pass opened n) i x) (gives (a_pass opened q)) (with s s.state t room)
+  posted_call eq tk fits ei en st = serves_from (λ o h.
       let b = takes_both s n Open tk in
       let c = count_of_inputs s.program in
       let is = s.table.inputs in
       let below = fit_below (made_of s) i x fits in
-      let e : kept_book (with s s.state t) ≡ book.change (kept_book s) (POST (a_pass opened n) i x) =
+      let e : kept_book (with s s.state t room) ≡ book.change (kept_book s) (POST (a_pass opened n) i x) =
       ap₂ (λ (js ks : List InputContent). record { made_of = made_of s; state = state_of s.state (take c js); inputs = ks; bookings = [] }) en (ap (take c) ei ∙ take_set c i is x) in
       record {
-        after = model (with s s.state t) o;
+        after = model (with s s.state t room) o;
         shows = record {
           keeps = refl;
           holding = holding_stays st h.holding;
-          traced = subst (λ (k : State). Traced k (kept_book (with s s.state t)) o) (sym b.1) (no_trace h (inr b.1));
+          traced = subst (λ (k : State). Traced k (kept_book (with s s.state t room)) o) (sym b.1) (no_trace h (inr b.1));
           rest = rest_same c ei (rest_set c i is x below h.rest);
           noted_rest = rest_same c en h.noted_rest;
         };
         does = served_call (ap (λ (k : Bool). unless (k && true) wrong_pass (unfit (made_of s) i x)) (bears_takes s n Open ∙ tk) ∙ fits) (record {
           leaves = ap (λ (k : Book). record { keeps = k; trace = o }) e;
-          answers = ap₂ (λ (k : ℕ) (j : State). gives (a_pass (book.sort_of (state_of j (take c t.noted))) k)) b.0 (sym b.1);
+          answers = ap₂ (λ (k : ℕ) (j : State). gives (a_pass (book.sort_of (state_of j (take c t.noted))) k)) (eq ∙ b.0) (sym b.1);
         });
       })
 
 -- ── withdraw ──
 
-module _ {X : Type 0} {g : Ghosts X} (s : Sheet X) (t : Table) (n q : ℕ) where
+module _ {X : Type 0} {g : Ghosts X} (s : Sheet X g) (t : Table) (room : Room s) (n q : ℕ) where
   pub withdrawn_call : q ≡ n → takes_pass s n Open ≡ true → t.inputs ≡ s.table.noted → t.noted ≡ s.table.noted → Stays s.table t →
-      Serves g s (WITHDRAW (a_pass opened n)) (gives (a_pass (resting unsettled) q)) (with s Unsettled t)
+      Serves g s (WITHDRAW (a_pass opened n)) (gives (a_pass (resting unsettled) q)) (with s Unsettled t room)
   withdrawn_call eq tk ei en st = serves_from (λ o h.
       let b = takes_both s n Open tk in
       let c = count_of_inputs s.program in
       let js = s.table.noted in
       let after : Book = record { made_of = made_of s; state = rests unsettled; inputs = take c js; bookings = [] } in
-      let e₁ : kept_book (with s Unsettled t) ≡ after =
+      let e₁ : kept_book (with s Unsettled t room) ≡ after =
       ap (λ (ks : List InputContent). record { made_of = made_of s; state = rests unsettled; inputs = take c ks; bookings = [] }) ei in
       let e₂ : withdrawing (kept_book s) (kept_book s).state ≡ after = ap (λ (k : State). withdrawing (kept_book s) (state_of k (take c js))) b.1 in
       record {
-        after = model (with s Unsettled t) o;
+        after = model (with s Unsettled t room) o;
         shows = record {
           keeps = refl;
           holding = holding_stays st h.holding;

@@ -1,8 +1,8 @@
 -- A sheet just made.
-use Rattle.std.proofs.Common.{◌≡◌, ℕ, ◌+◌, ◌-◌, ◌*◌, ◌≤◌, true, cond, ltb, List, [], ◌∷◌, ◌++◌, length, get_or, take, replicate, pos, None, sym, refl, ◌∙◌, subst, ap₂, inl, inr, arith, length-append, length-take}
+use Rattle.std.proofs.Common.{◌≡◌, ℕ, ◌+◌, ◌-◌, ◌*◌, ◌≤◌, cond, ltb, List, [], ◌∷◌, ◌++◌, length, get_or, take, replicate, pos, sym, refl, ◌∙◌, subst, ap₂, inl, inr, arith, length-append, length-take}
 use lib.ListN.{length-replicate, get_or-replicate}
 use Rattle.std.proofs.lemmas.List.{same_lists, get_or_default, get_or_append_left, get_or-append_right, get_or-take}
-use Rattle.std.proofs.lemmas.Bool.{cases_lt, lt-ltb, le-ltb, le-leb}
+use Rattle.std.proofs.lemmas.Bool.{cases_lt, lt-ltb, le-ltb}
 use Rattle.program.specs.declared.program.Program.{Program}
 use Rattle.program.specs.View.{viewed}
 use Rattle.program.proofs.Sound.{sound}
@@ -19,8 +19,6 @@ use Rattle.table.proofs.Vacancy.{standing_in}
 use Rattle.table.proofs.Zeroed.{all_alike}
 use Rattle.sheet.specs.declared.sheet.State.TheVariants.{Unsettled}
 use Rattle.sheet.specs.Shows.{count_of_inputs, RestEmpty, Shows}
-use Rattle.sheet.specs.Making.{sheet_refusal}
-use Rattle.table.specs.Limits.{allowed}
 
 -- ── the inputs ──
 
@@ -59,17 +57,14 @@ module _ (p : Program) (is : List InputContent) (long : length is ≡ 256) (zero
 -- ── the sheet ──
 
 pub just_made : {X : Type 0} {g : Ghosts X} {p : Program} {n L : ℕ} {l : Limit} {t : Table} {x : X} → l.value ≡ L → Vacant l.value t → Zeros (viewed p) t.inputs → t.noted ≡ t.inputs →
-    g.sound x → g.order x ≡ 0 ∷ [] → 4 * L + 1 ≤ g.size x →
-    Shows g (record { program = p; number = n; limit = l; state = Unsettled; table = t; list = x }) (fresh (record { program = viewed p; number = n; limit = L }))
-just_made {g = g} {p} {n} {L} {l} {t} {x} el v z en so ox w =
+    g.order x ≡ 0 ∷ [] → (room : 4 * l.value + 1 ≤ g.size x) →
+    Shows g (record { program = p; number = n; limit = l; state = Unsettled; table = t; list = x; room = room }) (fresh (record { program = viewed p; number = n; limit = L }))
+just_made {g = g} {p} {n} {L} {l} {t} {x} el v z en ox w =
     let r = rest_zero p t.inputs t.wide z in
     record {
       keeps = sym (ap₂ (λ (is : List InputContent) (k : ℕ). record { made_of = record { program = viewed p; number = n; limit = k }; state = rests unsettled; inputs = is; bookings = [] }) (inputs_blank p t.inputs t.wide z) el);
-      holding = record { in_order = so; standing = standing_in ox (omega arith) v };
+      holding = record { standing = standing_in ox w v };
       traced = refl;
       rest = r;
       noted_rest = subst (RestEmpty (count_of_inputs p)) (sym en) r;
     }
-
-pub not_refused : (c L : ℕ) → allowed L ≡ true → 4 * L + 1 ≤ c → sheet_refusal c L ≡ None
-not_refused c L a w = let t = le-leb (4 * L + 1) c w in rw (a, t)

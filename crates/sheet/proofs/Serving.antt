@@ -19,25 +19,17 @@ use Rattle.sheet.specs.Shows.{Model, state_of, kept_book, takes_pass, same_state
 use Rattle.sheet.specs.Answers.{Done, Serves}
 
 -- the model of a sheet with the trace o
-abbrev pub model : {X : Type 0} → Sheet X → Option Trace → Model
+abbrev pub model : {X : Type 0} {g : Ghosts X} → Sheet X g → Option Trace → Model
 model s o = record { keeps = kept_book s; trace = o }
 
 -- it is enough to look at models that keep the sheet's book
-pub serves_from : {X : Type 0} {g : Ghosts X} {s s' : Sheet X} {c : Call} {a : Answer} →
+pub serves_from : {X : Type 0} {g : Ghosts X} {s s' : Sheet X g} {c : Call} {a : Answer} →
     ((o : Option Trace) → Shows g s (model s o) → Done g (model s o) c a s') → Serves g s c a s'
 serves_from {g = g} {s} {s'} {c} {a} f = record {
   serves = λ m h.
       let e : m ≡ model s m.trace = ap (λ (b : Book). record { keeps = b; trace = m.trace }) h.keeps in
       subst (λ (k : Model). Done g k c a s') (sym e) (f m.trace (subst (Shows g s) e h));
 }
-
--- a call that is refused
-pub refused_call : {X : Type 0} {g : Ghosts X} (s : Sheet X) (c : Call) (r : Refusal) → refusal (kept_book s) c ≡ some r → Serves g s c (refused r) s
-refused_call s c r e = serves_from (λ o h. record {
-  after = model s o;
-  shows = h;
-  does = record { does = subst (λ (k : Option Refusal). RefusedOr k (model s o) c (refused r) (model s o)) (sym e) (record { leaves = refl; answers = refl }) };
-})
 
 -- a call that is served
 pub served_call : {s s' : Model} {c : Call} {a : Answer} → refusal s.keeps c ≡ none → history.Serves s c a s' → Does s c a s'
@@ -62,7 +54,7 @@ same_sorts Open Unsettled js = refl
 same_sorts Open Settled js = refl
 same_sorts Open Open js = refl
 
-pub bears_takes : {X : Type 0} (s : Sheet X) (n : ℕ) (k : State) → bears (kept_book s) (a_pass (sort_at k) n) ≡ takes_pass s n k
+pub bears_takes : {X : Type 0} {g : Ghosts X} (s : Sheet X g) (n : ℕ) (k : State) → bears (kept_book s) (a_pass (sort_at k) n) ≡ takes_pass s n k
 bears_takes s n k = ap (λ (b : Bool). eqb n s.number && b) (same_sorts k s.state _)
 
 state_is : (k j : State) → same_state k j ≡ true → j ≡ k
@@ -76,6 +68,6 @@ state_is Open Unsettled h = absurd (differ (sym h))
 state_is Open Settled h = absurd (differ (sym h))
 state_is Open Open h = refl
 
-pub takes_both : {X : Type 0} (s : Sheet X) (n : ℕ) (k : State) → takes_pass s n k ≡ true → (n ≡ s.number) × (s.state ≡ k)
+pub takes_both : {X : Type 0} {g : Ghosts X} (s : Sheet X g) (n : ℕ) (k : State) → takes_pass s n k ≡ true → (n ≡ s.number) × (s.state ≡ k)
 takes_both s n k h = let b = both_true (eqb n s.number) (same_state k s.state) h in
     (elim (eqb_tells n s.number) [ inl e ↦ e.1 | inr e ↦ absurd (differ (sym b.0 ∙ e.0)) ], state_is k s.state b.1)

@@ -1,5 +1,5 @@
 -- What a settle does, from what the run anew says.
-use Rattle.std.proofs.Common.{◌≡◌, ℕ, ◌≤◌, Bool, true, ◌&&◌, List, [], get_or, take, sym, refl, ap, ◌∙◌, subst, ap₂, inl, inr, arith, length-take, get_or-take}
+use Rattle.std.proofs.Common.{◌≡◌, ℕ, ◌+◌, ◌*◌, ◌≤◌, Bool, true, ◌&&◌, List, [], get_or, take, sym, refl, ap, ◌∙◌, subst, ap₂, inl, inr, arith, length-take, get_or-take}
 use mathlib.Core.Option.{Option, some, none}
 use Rattle.std.proofs.lemmas.List.{get_or_past}
 use Rattle.std.proofs.lemmas.Bool.{cases_lt}
@@ -50,19 +50,19 @@ begins_taken {L} {P} n is h b = record { begun_at = b.begun_at; apart = b.apart;
 -- ── a settle ──
 
 -- the sheet with another state, table and list
-abbrev pub settled_as : {X : Type 0} → Sheet X → State → Table → X → Sheet X
-settled_as s k t x = record { program = s.program; number = s.number; limit = s.limit; state = k; table = t; list = x }
+abbrev pub settled_as : {X : Type 0} {g : Ghosts X} (s : Sheet X g) → State → Table → (x : X) → 4 * s.limit.value + 1 ≤ g.size x → Sheet X g
+settled_as s k t x r = record { program = s.program; number = s.number; limit = s.limit; state = k; table = t; list = x; room = r }
 
-module _ {X : Type 0} (s : Sheet X) (t : Table) (x : X) (n q : ℕ) (eq : q ≡ n) (tk : takes_pass s n Open ≡ true) where
+module _ {X : Type 0} {g : Ghosts X} (s : Sheet X g) (t : Table) (x : X) (room : 4 * s.limit.value + 1 ≤ g.size x) (n q : ℕ) (eq : q ≡ n) (tk : takes_pass s n Open ≡ true) where
   not_refused : refusal (kept_book s) (SETTLE (a_pass opened n)) ≡ none
   not_refused = ap (λ (k : Bool). unless (k && true) wrong_pass none) (bears_takes s n Open ∙ tk)
 
-  kept_inputs : (k : State) → SameInputs s.table t → kept_book (settled_as s k t x) ≡
+  kept_inputs : (k : State) → SameInputs s.table t → kept_book (settled_as s k t x room) ≡
       record { made_of = made_of s; state = state_of k (take (count_of_inputs s.program) s.table.noted); inputs = take (count_of_inputs s.program) s.table.inputs; bookings = [] }
   kept_inputs k e = ap₂ (λ (js is : List InputContent). record { made_of = made_of s; state = state_of k (take (count_of_inputs s.program) js); inputs = take (count_of_inputs s.program) is; bookings = [] }) e.noted e.inputs
 
-  pub settled_call : {g : Ghosts X} {m : ℕ} → RanAnew g (viewed s.program) s.limit.value s.table t x m →
-      Serves g s (SETTLE (a_pass opened n)) (done 2 0 m m (a_pass (resting settled) q)) (settled_as s Settled t x)
+  pub settled_call : {m : ℕ} → RanAnew g (viewed s.program) s.limit.value s.table t x m →
+      Serves g s (SETTLE (a_pass opened n)) (done 2 0 m m (a_pass (resting settled) q)) (settled_as s Settled t x room)
   settled_call {m = m} r = serves_from (λ o h.
       let b = takes_both s n Open tk in
       let c = count_of_inputs s.program in
@@ -72,7 +72,7 @@ module _ {X : Type 0} (s : Sheet X) (t : Table) (x : X) (n q : ℕ) (eq : q ≡ 
       let st = stands_taken c s.table.inputs h.rest r.stands in
       let fits : size u ≤ s.limit.value = (let f = r.fits in omega arith) in
       record {
-        after = model (settled_as s Settled t x) (some u);
+        after = model (settled_as s Settled t x room) (some u);
         shows = record {
           keeps = refl;
           holding = r.holding;
@@ -93,14 +93,14 @@ module _ {X : Type 0} (s : Sheet X) (t : Table) (x : X) (n q : ℕ) (eq : q ≡ 
         }));
       })
 
-  pub too_large_call : {g : Ghosts X} → Exceeded g (viewed s.program) s.limit.value s.table t x →
-      Serves g s (SETTLE (a_pass opened n)) (too_large (a_pass (resting unsettled) q)) (settled_as s Unsettled t x)
+  pub too_large_call : Exceeded g (viewed s.program) s.limit.value s.table t x →
+      Serves g s (SETTLE (a_pass opened n)) (too_large (a_pass (resting unsettled) q)) (settled_as s Unsettled t x room)
   too_large_call r = serves_from (λ o h.
       let b = takes_both s n Open tk in
       let c = count_of_inputs s.program in
       let e = kept_inputs Unsettled r.same in
       record {
-        after = model (settled_as s Unsettled t x) none;
+        after = model (settled_as s Unsettled t x room) none;
         shows = record {
           keeps = refl;
           holding = r.holding;
@@ -126,5 +126,5 @@ plainly {m} {m'} {n} {a} d =
       holds = λ e t p. holds_plain m.keeps m.trace a m' (so e) t p;
     }
 
-pub settles_plainly : {X : Type 0} {g : Ghosts X} {s s' : Sheet X} {n : ℕ} {a : Answer} → Serves g s (SETTLE (a_pass opened n)) a s' → Settles g s (SETTLE (a_pass opened n)) a s'
+pub settles_plainly : {X : Type 0} {g : Ghosts X} {s s' : Sheet X g} {n : ℕ} {a : Answer} → Serves g s (SETTLE (a_pass opened n)) a s' → Settles g s (SETTLE (a_pass opened n)) a s'
 settles_plainly h = record { settles = λ m w. let d = h.serves m w in (d, plainly d.does) }

@@ -8,15 +8,15 @@ use program::program::Program;
 #[derive(Clone, Copy, PartialEq, Eq, Debug)]
 pub enum Refusal {
     /// The pass bears another number, or the sheet is in another state.
-    WrongPass,
+    WrongPass = 13,
     /// There is no such input.
-    NoSuchInput,
+    NoSuchInput = 14,
     /// A content of the other kind.
-    OtherKind,
+    OtherKind = 15,
     /// A cell that names an input that is missing or of the wrong kind.
-    WrongCell,
+    WrongCell = 16,
     /// No record has this number.
-    NoSuchLine,
+    NoSuchLine = 24,
 }
 
 impl Refusal {
@@ -24,13 +24,7 @@ impl Refusal {
     pub fn number(self) -> u8
         ensures { result ≡ number_of self }
     {
-        match self {
-            Refusal::WrongPass => 13,
-            Refusal::NoSuchInput => 14,
-            Refusal::OtherKind => 15,
-            Refusal::WrongCell => 16,
-            Refusal::NoSuchLine => 24,
-        }
+        self as u8
     }
 }
 
@@ -44,9 +38,9 @@ pub struct Refused<P> {
 #[derive(Clone, Copy, PartialEq, Eq, Debug)]
 pub enum MakeRefusal {
     /// The limit is not 1 to 512.
-    Limit,
+    Limit = 11,
     /// The list has not room for the stamps: its capacity is below 4L + 1.
-    Capacity,
+    Capacity = 12,
 }
 
 impl MakeRefusal {
@@ -54,10 +48,7 @@ impl MakeRefusal {
     pub fn number(self) -> u8
         ensures { result ≡ make_number_of self }
     {
-        match self {
-            MakeRefusal::Limit => 11,
-            MakeRefusal::Capacity => 12,
-        }
+        self as u8
     }
 }
 

@@ -1,6 +1,7 @@
 // What a settle answers.
 ghost use Rattle.std.specs.Prelude.{◌≡◌};
 ghost use Rattle.sheet.specs.Answers.{mark_of};
+ghost use Rattle.sheet.specs.declared.settled.NotSettled.TheVariants.{Refused as NotSettledRefused};
 
 use crate::pass::{OpenPass, SettledPass, UnsettledPass};
 use crate::refusal::Refused;
@@ -9,9 +10,9 @@ use crate::refusal::Refused;
 #[derive(Clone, Copy, PartialEq, Eq, Debug)]
 pub enum Mark {
     /// The records that stood had their turns.
-    ByTurns,
+    ByTurns = 1,
     /// Nothing stood, and all was run anew.
-    Anew,
+    Anew = 2,
 }
 
 impl Mark {
@@ -19,10 +20,7 @@ impl Mark {
     pub fn number(self) -> u8
         ensures { result ≡ mark_of self }
     {
-        match self {
-            Mark::ByTurns => 1,
-            Mark::Anew => 2,
-        }
+        self as u8
     }
 }
 
@@ -41,4 +39,12 @@ pub struct Settled {
 pub enum NotSettled {
     Refused(Refused<OpenPass>),
     TooLarge(UnsettledPass),
+}
+
+impl From<Refused<OpenPass>> for NotSettled {
+    ghost from_gives = { λ refused answer. answer ≡ NotSettledRefused refused };
+
+    fn from(refused: Refused<OpenPass>) -> NotSettled {
+        NotSettled::Refused(refused)
+    }
 }

@@ -1,3 +1,5 @@
+ghost use Rattle.std.specs.Prelude.{◌+◌, ◌*◌, ◌≤◌};
+
 use order_list::list::OrderList;
 use program::program::Program;
 use table::limit::Limit;
@@ -24,4 +26,5 @@ pub struct Sheet<O: OrderList> {
     state: State,
     table: Table,
     list: O,
+    ghost room: { 4 * limit.value + 1 ≤ O.OrderList.size list },
 }

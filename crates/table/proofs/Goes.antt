@@ -1,13 +1,16 @@
 -- The steps of the run, as its code meets them.
-use Rattle.std.proofs.Common.{◌≡◌, ℕ, ◌<◌, true, ◌≢◌, List, is_err, Ok, Err, Result, sym, ap, ◌∙◌, arith}
-use Rattle.program.specs.View.{View}
+use Rattle.std.proofs.Common.{◌≡◌, ℕ, ◌<◌, true, ◌≢◌, List, is_err, Ok, Err, Result, Bor, sym, ap, ◌∙◌, subst, arith}
+use Rattle.program.specs.declared.program.Program.{Program}
+use Rattle.program.specs.View.{View, viewed}
 use Rattle.program.specs.declared.value.Content.{Content}
 use Rattle.program.specs.declared.value.Content.TheVariants.{Empty}
 use Rattle.trace.specs.Code.{Code, next, makes, resume, enter}
 use Rattle.trace.specs.Trace.{places}
 use Rattle.order_list.specs.Order.{Apart}
-use Rattle.code.specs.declared.args.Args.{Args}
-use Rattle.code.specs.Args.{listed}
+use Rattle.code.specs.Args.{Args}
+use Rattle.code.specs.Values.{listed}
+use Rattle.code.specs.declared.running.Running.{Running}
+use Rattle.code.specs.Shown.{shown}
 use Rattle.table.specs.declared.record.Record.{Record}
 use Rattle.table.specs.declared.record.Entry.{Entry}
 use Rattle.table.specs.declared.record.Entry.TheVariants.{Blank, New}
@@ -74,3 +77,14 @@ module _ {P : View} {c₁ : Code} {a a₁ b₁ b₂ : Table} {xs xs₁ ys₁ ys�
       (r : Result Written TooLarge) → Ends P c₂ d b₂ b ys₂ ys m₂ r → Ends P c d a b xs ys cursor r
   ends_new c k c₂ d b ys e g e₁ h z e₂ mem ay (Ok r) w = ran_new g h z w c k e e₁ e₂ mem ay
   ends_new c k c₂ d b ys e g e₁ h z e₂ mem ay (Err t) w = over_behind_new g h z c k c₂ e e₁ e₂ w
+
+-- a run of the same program
+module _ {p q : Bor Program} (e : q ≡ p) (k : Running) where
+  pub ran_at : {d : ℕ} {a b : Table} {xs ys : List ℕ} {cursor : ℕ} {x : Content} {m : ℕ} → Ran (viewed q.now) (shown (viewed q.now) k) d a b xs ys cursor x m → Ran (viewed p.now) (shown (viewed p.now) k) d a b xs ys cursor x m
+  ran_at {d} {a} {b} {xs} {ys} {cursor} {x} {m} h = subst (λ (p : Bor Program). Ran (viewed p.now) (shown (viewed p.now) k) d a b xs ys cursor x m) e h
+
+  pub exceeds_at : {a : Table} → Exceeds (viewed q.now) (shown (viewed q.now) k) a → Exceeds (viewed p.now) (shown (viewed p.now) k) a
+  exceeds_at {a} h = subst (λ (p : Bor Program). Exceeds (viewed p.now) (shown (viewed p.now) k) a) e h
+
+  pub ends_at : (d : ℕ) (a b : Table) (xs ys : List ℕ) (cursor : ℕ) (r : Result Written TooLarge) → Ends (viewed q.now) (shown (viewed q.now) k) d a b xs ys cursor r → Ends (viewed p.now) (shown (viewed p.now) k) d a b xs ys cursor r
+  ends_at d a b xs ys cursor r h = subst (λ (p : Bor Program). Ends (viewed p.now) (shown (viewed p.now) k) d a b xs ys cursor r) e h

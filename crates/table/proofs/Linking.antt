@@ -4,6 +4,7 @@ use Rattle.std.proofs.lemmas.Bool.Decides.{eqb_tells}
 use Rattle.std.proofs.lemmas.Bool.{cases_Bool, ne_eqb, eq-eqb}
 use Rattle.order_list.specs.Order.{has}
 use Rattle.order_list.proofs.Lists.{has_here, apart_from, under_has}
+use Rattle.table.specs.declared.readers.Links.{Links}
 use Rattle.table.specs.declared.readers.Readers.{Readers}
 use Rattle.table.specs.Rings.{next_of, previous_of, Chained, Linked, Rings, NoReader, Unlinked, joined, Joins}
 use Rattle.table.proofs.Chains.{has_or, chained_same, chained_put, next_in}
@@ -93,16 +94,54 @@ linked_joined n p n' p' f s r L ls lr out na nr nk pr pn pk =
       ];
     }
 
--- what one write, and two, leave
-at_set : (xs : List ℕ) (i v k : ℕ) → i < length xs → get_or (set xs i v) k 0 ≡ cond (eqb i k) v (get_or xs k 0)
-at_set xs i v k h = elim (eqb_tells i k) [
-  | inl e ↦ rw e.0 (rw (sym e.1) (get_or-set_same xs i v 0 h))
-  | inr ne ↦ rw ne.0 (get_or-set_other xs i k v 0 (λ e. ne.1 (sym e)))
+-- ── writes ──
+
+abbrev no_links : Links
+no_links = record { next = 0; previous = 0 }
+
+abbrev next : Links → ℕ
+next l = l.next
+
+abbrev previous : Links → ℕ
+previous l = l.previous
+
+-- what a write of links leaves of a field f
+at_set : (f : Links → ℕ) (xs : List Links) (i : ℕ) (v : Links) (k : ℕ) → i < length xs → f (get_or (set xs i v) k no_links) ≡ cond (eqb i k) (f v) (f (get_or xs k no_links))
+at_set f xs i v k h = elim (eqb_tells i k) [
+  | inl e ↦ rw e.0 (rw (sym e.1) (ap f (get_or-set_same xs i v no_links h)))
+  | inr ne ↦ rw ne.0 (ap f (get_or-set_other xs i k v no_links (λ e. ne.1 (sym e))))
 ]
 
-at_two : (xs : List ℕ) (i v j w k : ℕ) → i < length xs → j < length xs → get_or (set (set xs i v) j w) k 0 ≡ cond (eqb j k) w (cond (eqb i k) v (get_or xs k 0))
-at_two xs i v j w k hi hj = let hj' : j < length (set xs i v) = simp length-set hj in
-    at_set (set xs i v) j w k hj' ∙ ap (λ (x : ℕ). cond (eqb j k) w x) (at_set xs i v k hi)
+-- likewise where it leaves the field
+at_set_same : (f : Links → ℕ) (xs : List Links) (i : ℕ) (v : Links) (k : ℕ) → i < length xs → f v ≡ f (get_or xs i no_links) → f (get_or (set xs i v) k no_links) ≡ f (get_or xs k no_links)
+at_set_same f xs i v k h same = elim (eqb_tells i k) [
+  | inl e ↦ rw (sym e.1) (ap f (get_or-set_same xs i v no_links h) ∙ same)
+  | inr ne ↦ ap f (get_or-set_other xs i k v no_links (λ e. ne.1 (sym e)))
+]
+
+-- the three writes of a link: r is put in between the head h and its first x
+module _ (xs : List Links) (h x r : ℕ) where
+  abbrev one : List Links
+  one = set xs r (record { next = x; previous = h })
+
+  abbrev two : List Links
+  two = set one h (record { next = r; previous = (get_or one h no_links).previous })
+
+  abbrev pub three : List Links
+  three = set two x (record { next = (get_or two x no_links).next; previous = r })
+
+  module _ (lh : h < length xs) (lx : x < length xs) (lr : r < length xs) where
+    next_three : (k : ℕ) → (get_or three k no_links).next ≡ cond (eqb h k) r (cond (eqb r k) x (get_or xs k no_links).next)
+    next_three k =
+        let l₁ : h < length one = simp length-set lh in
+        let l₂ : x < length two = simp length-set lx in
+        at_set_same next two x _ k l₂ refl ∙ at_set next one h _ k l₁ ∙ ap (λ (y : ℕ). cond (eqb h k) r y) (at_set next xs r _ k lr)
+
+    previous_three : (k : ℕ) → (get_or three k no_links).previous ≡ cond (eqb x k) r (cond (eqb r k) h (get_or xs k no_links).previous)
+    previous_three k =
+        let l₁ : h < length one = simp length-set lh in
+        let l₂ : x < length two = simp length-set lx in
+        at_set previous two x _ k l₂ ∙ ap (λ (y : ℕ). cond (eqb x k) r y) (at_set_same previous one h _ k l₁ refl ∙ at_set previous xs r _ k lr)
 
 first_in : (r : Readers) (f : ℕ → List ℕ) (s : ℕ) → Rings r f → s < 1280 → next_of r (1024 + s) < 2304
 first_in r f s R l = let L = R.linked in node_below (next_of r) (previous_of r) f L s (next_of r (1024 + s)) l (first_node (next_of r) (previous_of r) f L s l)
@@ -110,18 +149,13 @@ first_in r f s R l = let L = R.linked in node_below (next_of r) (previous_of r) 
 pub first_below : (r : Readers) (s k : ℕ) → Unlinked r k → s < 1280 → next_of r (1024 + s) < 2304
 first_below r s k u l = first_in r u.readers s u.rings l
 
--- the writes of a link
-pub joins : (a b : Readers) (s r : ℕ) → s < 1280 → r < 1024 →
-    b.next ≡ set (set a.next r (next_of a (1024 + s))) (1024 + s) r →
-    b.previous ≡ set (set a.previous r (1024 + s)) (next_of a (1024 + s)) r →
-    Joins a b s r
-joins a b s r ls lr en ep = record {
+pub joins : (a b : Readers) (s r : ℕ) → s < 1280 → r < 1024 → b.nodes ≡ three a.nodes (1024 + s) (next_of a (1024 + s)) r → Joins a b s r
+joins a b s r ls lr e = record {
   puts = λ f R out.
       let L = R.linked in
       let h = 1024 + s in
       let x = next_of a h in
       let ll = a.long in
-      let lw = a.wide in
       let lx = first_in a f s R ls in
       let xr : x ≡ r → ⊥ = λ e. elim (has_or h x (f s) (first_node (next_of a) (previous_of a) f L s ls)) [
         | inl z ↦ absurd (omega arith)
@@ -129,9 +163,9 @@ joins a b s r ls lr en ep = record {
       ] in
       let hr : h ≡ r → ⊥ = λ e. absurd (omega arith) in
       let nx : (k : ℕ) → next_of b k ≡ cond (eqb h k) r (cond (eqb r k) x (next_of a k)) =
-      λ k. ap (λ (l : List ℕ). get_or l k 0) en ∙ at_two a.next r x h r k (omega arith) (omega arith) in
+      λ k. ap (λ (l : List Links). (get_or l k no_links).next) e ∙ next_three a.nodes h x r (omega arith) (omega arith) (omega arith) k in
       let pv : (k : ℕ) → previous_of b k ≡ cond (eqb x k) r (cond (eqb r k) h (previous_of a k)) =
-      λ k. ap (λ (l : List ℕ). get_or l k 0) ep ∙ at_two a.previous r h x r k (omega arith) (omega arith) in
+      λ k. ap (λ (l : List Links). (get_or l k no_links).previous) e ∙ previous_three a.nodes h x r (omega arith) (omega arith) (omega arith) k in
       record {
         linked = linked_joined (next_of a) (previous_of a) (next_of b) (previous_of b) f s r L ls lr out
             (nx h ∙ rw (eq-eqb h h refl))

@@ -11,8 +11,8 @@ use Rattle.trace.specs.Trace.{size, Store}
 use Rattle.trace.specs.Run.{Kept, content_of_input, initial, Stands}
 use Rattle.trace.specs.Over.{Over, BeginsMore}
 use Rattle.order_list.specs.Order.{Apart}
-use Rattle.code.specs.declared.args.Args.{Args}
-use Rattle.code.specs.Args.{listed, given}
+use Rattle.code.specs.Args.{Args, given}
+use Rattle.code.specs.Values.{listed}
 use Rattle.table.specs.declared.record.Record.{Record}
 use Rattle.table.specs.declared.record.Entry.TheVariants.{New}
 use Rattle.table.specs.declared.table.Table.{Table}
@@ -64,7 +64,7 @@ module _ {L c : ℕ} {a a₁ : Table} {xs : List ℕ} (st : Standing L c a₁ xs
   may_run =
       let l = ap length st.listed in let n = st.counted in let w = st.wide in
       record {
-        ready = record { free = st.free; tied = st.tied; enough = omega arith };
+        ready = record { free = st.free; tied = st.tied };
         member = record { pre = []; post = []; split = st.listed };
         stamps = omega arith;
       }
@@ -106,8 +106,8 @@ module _ {L c : ℕ} {a a₁ : Table} {xs : List ℕ} (st : Standing L c a₁ xs
 
 -- what a run anew leaves
 pub ran_anew : {X : Type 0} {g : Ghosts X} {L n : ℕ} {P : View} {a a₁ b : Table} {x₁ x : X} {y : Content} {m : ℕ} →
-    Cleared g L a a₁ x₁ → Ran P (main P) 1024 a₁ b (g.order x₁) (g.order x) 0 y m → g.sound x → g.size x ≡ g.size x₁ → n ≡ L → RanAnew g P L a b x (n - b.room)
-ran_anew {g = g} {L} {n} {P} {a} {a₁} {b} {x₁} {x} c r sound same e =
+    Cleared g L a a₁ x₁ → Ran P (main P) 1024 a₁ b (g.order x₁) (g.order x) 0 y m → g.size x ≡ g.size x₁ → n ≡ L → RanAnew g P L a b x (n - b.room)
+ran_anew {g = g} {L} {n} {P} {a} {a₁} {b} {x₁} {x} c r same e =
     let st = c.holding.standing in
     let k = run_counted st c.room c.same r n e in
     record {
@@ -116,7 +116,7 @@ ran_anew {g = g} {L} {n} {P} {a} {a₁} {b} {x₁} {x} c r sound same e =
       counted = k.0;
       fits = k.1;
       room = omega (arith, c.room, r.room, e);
-      holding = record { in_order = sound; standing = subst (λ (s : ℕ). Standing L s b (g.order x) r.trace) (sym same) (run_standing st c.room c.same r) };
+      holding = record { standing = subst (λ (s : ℕ). Standing L s b (g.order x) r.trace) (sym same) (run_standing st c.room c.same r) };
       same = same_trans c.same r.same;
     }
 

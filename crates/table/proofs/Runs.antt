@@ -16,9 +16,9 @@ use Rattle.trace.specs.Over.{Over, one_made, one_read, over_inside, over_behind,
 use Rattle.trace.proofs.Places.{absent_left, absent_right, absent_join, distinct_join, among_cases, not_among}
 use Rattle.order_list.specs.Order.{has, Apart}
 use Rattle.order_list.proofs.Lists.{has_none}
-use Rattle.code.specs.declared.args.Args.{Args}
+use Rattle.code.specs.Args.{Args}
 use Rattle.code.specs.declared.reader.Reader as declared
-use Rattle.code.specs.Args.{listed}
+use Rattle.code.specs.Values.{listed}
 use Rattle.code.specs.Readers.{reader_of}
 use Rattle.table.specs.declared.record.Record.{Record}
 use Rattle.table.specs.declared.record.Entry.{Entry}

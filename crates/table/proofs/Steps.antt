@@ -1,5 +1,5 @@
 -- One record begun or ended, from what the table's methods and the list say.
-use Rattle.std.proofs.Common.{◌≡◌, ℕ, ◌<◌, ◌≤◌, ◌≢◌, List, [], ◌∷◌, length, get_or, sym, ap, ◌∙◌, subst, inl, inr, arith, get_or-set_other, get_or-set_same}
+use Rattle.std.proofs.Common.{◌≡◌, ℕ, ◌<◌, ◌≤◌, ◌≢◌, List, [], ◌∷◌, length, get_or, refl, sym, ap, ◌∙◌, subst, inl, inr, arith, get_or-set_other, get_or-set_same}
 use Rattle.std.proofs.lemmas.Bool.{cases_eq}
 use Rattle.program.specs.declared.value.Content.{Content}
 use Rattle.table.specs.declared.record.Record.{Record}
@@ -12,11 +12,26 @@ use Rattle.table.specs.Stamps.{Moved}
 use Rattle.table.specs.Standing.{at, Free, Tied}
 use Rattle.table.specs.Changes.{SameInputs, Took, Puts, Enters, Owns}
 use Rattle.table.specs.Ran.{Ready, Open, Ending, Sets, OwnedBy, HasBegun, HasEnded}
+use Rattle.order_list.specs.declared.list.OrderList.{Ghosts}
+use Rattle.table.specs.declared.table.run.Run.{Run}
+use Rattle.table.specs.Runs.{Keeps}
 use Rattle.table.proofs.Lists.{moved_member, moved_length}
 use Rattle.table.proofs.Ties.{unlinked, tied_same, tied_enter, source_wrote}
 
 pub same_trans : {a b c : Table} → SameInputs a b → SameInputs b c → SameInputs a c
 same_trans h k = record { inputs = k.inputs ∙ h.inputs; noted = k.noted ∙ h.noted }
+
+pub keeps_refl : {X : Type 0} {g : Ghosts X} {a : Run X} → Keeps g a a
+keeps_refl = record { inputs = record { inputs = refl; noted = refl }; capacity = refl; program = refl; table = refl; list = refl }
+
+pub keeps_trans : {X : Type 0} {g : Ghosts X} {a b c : Run X} → Keeps g a b → Keeps g b c → Keeps g a c
+keeps_trans h k = record {
+  inputs = same_trans h.inputs k.inputs;
+  capacity = k.capacity ∙ h.capacity;
+  program = k.program ∙ h.program;
+  table = k.table ∙ h.table;
+  list = k.list ∙ h.list;
+}
 
 record_is : {xs ys : List Record} → ys ≡ xs → (q : ℕ) → get_or ys q blank ≡ get_or xs q blank
 record_is e q = ap (λ (rs : List Record). get_or rs q blank) e
@@ -32,7 +47,6 @@ free_less : {a b : Table} → Free a → b.spare ≡ a.spare → b.spares ≤ a.
 free_less {a} {b} y e less same =
     let to : (i : ℕ) → i < b.spares → i < a.spares = λ i k. omega arith in
     record {
-      few = (let z = y.few in omega arith);
       below = λ i k. subst (λ (q : ℕ). q < 1024) (sym (number_is e i)) (y.below i (to i k));
       blank = λ i k. ap (λ (q : ℕ). (at b q).entry) (number_is e i) ∙ same i k ∙ y.blank i (to i k);
       apart = λ i j l k z. y.apart i j l (to j k) (sym (number_is e i) ∙ z ∙ number_is e j);
@@ -100,7 +114,6 @@ ready_owns : {a b : Table} {k p : ℕ} → Ready a → Owns a b k p → Ready b
 ready_owns {a} {b} y h = record {
   free = (let e = h.spares in free_less y.free h.spare (omega arith) (λ i l. ap (λ (r : Record). r.entry) (record_is h.records _)));
   tied = tied_same y.tied h.readers (λ q. ap (λ (r : Record). source_of r.entry) (record_is h.records q));
-  enough = (let e = h.spares in let f = h.room in let z = y.enough in omega arith);
 }
 
 -- ── a record begins ──
@@ -122,7 +135,6 @@ begun {a} {t} {b} {b'} {c} {xs} {ys} {cursor} {p} {m} e o k mv lt h n w =
       free = (let e₁ = h.spares in let e₂ = k.spares in free_less y.free (h.spare ∙ k.spare) (omega arith)
           (λ i l. ap (λ (r : Record). r.entry) (s₀.others _ (still_others y k i (omega arith)))));
       tied = tied_enter (took_tied y k) n (ap (λ (r : Record). r.entry) (took_at y k p) ∙ took_blank y k) s.here s.others;
-      enough = (let e₁ = h.spares in let e₂ = k.spares in let f₁ = h.room in let f₂ = k.room in let z = y.enough in omega arith);
     } in
     record {
       blank = took_blank y k;
@@ -158,7 +170,6 @@ ended {a} {b} {b'} {c} {xs} {ys} {cursor} {p} {m} {x} {r} {e} o is re mv lt h n 
       free = (let e₁ = h.spares in free_less y.free h.spare (omega arith)
           (λ i l. ap (λ (q : Record). q.entry) (s.others _ (λ z. o.there (ap (λ (q : ℕ). (at a q).entry) (sym z) ∙ y.free.blank i (omega arith))))));
       tied = tied_put y s₀;
-      enough = (let e₁ = h.spares in let f₁ = h.room in let z = y.enough in omega arith);
     } in
     record {
       sets = sets_owns s₀ w;

@@ -22,7 +22,6 @@ module _ {L : ℕ} {t : Table} (few : L ≤ 512) (b : BlankTable L t) where
 
   all_free : Free t
   all_free = record {
-    few = (let e = b.spares in omega arith);
     below = λ i l. subst (λ (q : ℕ). q < 1024) (sym (b.spare i (below_all i l))) (below_all i l);
     blank = λ i l. b.blank (get_or t.spare i 0);
     apart = λ i j l k e. let z : i ≡ j = sym (b.spare i (below_all i (omega arith))) ∙ e ∙ b.spare j (below_all j k) in absurd (omega arith);

@@ -17,15 +17,9 @@ use Rattle.table.specs.Standing.{Standing}
 abbrev pub nothing : Trace
 nothing = write content.Empty
 
--- `Holding g L t x u`: the order list x, whose meaning is g, is in order, and with the limit L the table t and the list hold the trace u
+-- `Holding g L t x u`: with the limit L the table t and the order list x, whose meaning is g, hold the trace u
 pub record Holding {X : Type 0} (g : Ghosts X) (L : ℕ) (t : Table) (x : X) (u : Trace) : Type 0 where
-  pub in_order : g.sound x
   pub standing : Standing L (g.size x) t (g.order x) u
-
--- they hold some trace
-pub record Sound {X : Type 0} (g : Ghosts X) (L : ℕ) (t : Table) (x : X) : Type 0 where
-  pub trace : Trace
-  pub holding : Holding g L t x trace
 
 -- whatever the table a held, with whatever list, b holds
 pub record Stays (a b : Table) : Type 0 where

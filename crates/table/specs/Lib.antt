@@ -5,4 +5,5 @@ pub mod Standing
 pub mod Changes
 pub mod Stamps
 pub mod Ran
+pub mod Runs
 pub mod Anew

@@ -23,7 +23,6 @@ use Rattle.table.specs.Changes.{SameInputs}
 pub record Ready (t : Table) : Type 0 where
   pub free : Free t
   pub tied : Tied t
-  pub enough : t.room ≤ t.spares
 
 -- a run may begin at the cursor, a member of the list xs of the capacity c: there is room for two stamps of each record
 pub record Open (t : Table) (c : ℕ) (xs : List ℕ) (cursor : ℕ) : Type 0 where

@@ -1,12 +1,12 @@
 -- What a record says, in the words of the trace.
-use Rattle.std.specs.Prelude.{ℕ, ◌+◌, cond, List, nat_lt}
+use Rattle.std.specs.Prelude.{◌≡◌, ℕ, ◌+◌, ◌<◌, cond, List, Some, None, Option, nat_lt}
 use Rattle.program.specs.declared.value.Name.{Name}
 use Rattle.program.specs.declared.value.Name.TheVariants.{Input, Made}
 use Rattle.program.specs.declared.value.Content.{Content}
 use Rattle.program.specs.declared.value.Content.TheVariants.{Empty}
 use Rattle.program.specs.declared.value.Value.{Value}
 use Rattle.trace.specs.Code.{Reader}
-use Rattle.code.specs.Args.{listed}
+use Rattle.code.specs.Values.{listed}
 use Rattle.code.specs.Readers.{reader_of}
 use Rattle.table.specs.declared.record.Record.{Record}
 use Rattle.table.specs.declared.record.Entry.{Entry}
@@ -58,3 +58,8 @@ source_of Blank = 1280
 source_of (New f args x) = 1280
 source_of (Read s b x d) = number_of_source s
 source_of (Dropped x) = 1280
+
+-- the number n of a source, told as an Option: none where it is 1280
+abbrev pub SourceIs : ℕ → Option ℕ → Type 0
+SourceIs n (Some s) = (s ≡ n) × (s < 1280)
+SourceIs n None = n ≡ 1280

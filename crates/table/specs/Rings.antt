@@ -1,13 +1,18 @@
 -- The readers of each source: a ring of places for each, through a head.
-use Rattle.std.specs.Prelude.{◌≡◌, ℕ, ◌+◌, ◌<◌, true, false, cond, List, [], ◌∷◌, ◌==◌, slice_index}
+use Rattle.std.specs.Prelude.{◌≡◌, ℕ, ◌+◌, ◌<◌, true, false, cond, List, [], ◌∷◌, ◌==◌, slice_index_or}
 use Rattle.order_list.specs.Order.{has, Apart, Under}
+use Rattle.table.specs.declared.readers.Links.{Links}
 use Rattle.table.specs.declared.readers.Readers.{Readers}
 
+-- the links of a node; behind the last (never read) they are 0
+abbrev pub links_of : Readers → ℕ → Links
+links_of r k = slice_index_or r.nodes k (record { next = 0; previous = 0 })
+
 abbrev pub next_of : Readers → ℕ → ℕ
-next_of r k = slice_index r.next k
+next_of r k = (links_of r k).next
 
 abbrev pub previous_of : Readers → ℕ → ℕ
-previous_of r k = slice_index r.previous k
+previous_of r k = (links_of r k).previous
 
 -- the links n and p lead from a along xs to b, there and back
 abbrev pub Chained : (ℕ → ℕ) → (ℕ → ℕ) → ℕ → List ℕ → ℕ → Type 0

@@ -60,7 +60,6 @@ Owned own ρ (read n s b x rest) = (own (ρ n).start ≡ n) × (own (ρ n).end �
 
 -- the free places: each is blank, and on the stack once
 pub record Free (t : Table) : Type 0 where
-  pub few : t.spares ≤ 1024
   pub below : (i : ℕ) → i < t.spares → slice_index t.spare i < 1024
   pub blank : (i : ℕ) → i < t.spares → (at t (slice_index t.spare i)).entry ≡ Blank
   pub apart : (i j : ℕ) → i < j → j < t.spares → slice_index t.spare i ≢ slice_index t.spare j

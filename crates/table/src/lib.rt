@@ -1,7 +1,6 @@
 // The table of a sheet: its records and inputs, and the run that fills it.
 #![tactic(auto)]
 
-mod counted;
 pub mod limit;
 mod readers;
 pub mod record;

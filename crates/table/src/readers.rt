@@ -7,12 +7,17 @@ pub mod methods;
 /// As many nodes as there are places and sources.
 pub(crate) const NODES: usize = PLACES + SOURCES;
 
+/// The nodes behind and before a node of a ring.
+#[derive(Clone, Copy)]
+pub(crate) struct Links {
+    next: u16,
+    previous: u16,
+}
+
 /// For each source a ring of the places whose reads stand on it, linked both ways. A node below 1024 is a place; node
 /// 1024 + s is the head of the ring of source s.
 #[derive(Drop)]
 pub struct Readers {
-    next: [u16; NODES],
-    previous: [u16; NODES],
-    ghost long: { length next ≡ 2304 },
-    ghost wide: { length previous ≡ 2304 },
+    nodes: [Links; NODES],
+    ghost long: { length nodes ≡ 2304 },
 }

@@ -1,6 +1,7 @@
 ghost use Rattle.std.specs.Prelude.{◌≡◌};
-ghost use Rattle.table.specs.Records.{blank};
+ghost use Rattle.table.specs.Records.{content_inside, wrote, number_of_source, source_of, SourceIs};
 
+use crate::sizes::{INPUTS, PLACES};
 use code::args::Args;
 use code::reader::Reader;
 use program::value::{Content, Name};
@@ -36,15 +37,59 @@ pub enum Entry {
     },
 }
 
+/// The number of a source.
+fn source_number(name: Name) -> Option<u16>
+    ensures { SourceIs (number_of_source name) result }
+{
+    match name {
+        Name::Made(n) if (n as usize) < PLACES => Some(n),
+        Name::Input(k) if (k as usize) < INPUTS => Some(PLACES as u16 + k),
+        Name::Made(_) | Name::Input(_) => None,
+    }
+}
+
 impl Record {
     /// What a free place holds.
-    pub(crate) fn blank() -> Record
-        ensures { result ≡ blank }
+    pub(crate) const BLANK: Record = Record {
+        entry: Entry::Blank,
+        start: 0,
+        end: 0,
+    };
+}
+
+impl Entry {
+    /// What the modifiable of a record holds.
+    pub(crate) fn content(&self) -> Content
+        ensures { result ≡ content_inside self.now }
     {
-        Record {
-            entry: Entry::Blank,
-            start: 0,
-            end: 0,
+        match self {
+            Entry::New { content, .. } => *content,
+            Entry::Dropped { content } => *content,
+            Entry::Blank | Entry::Read { .. } => Content::Empty,
+        }
+    }
+
+    /// The entry when its record ends: the modifiable of a NEW is written.
+    pub(crate) fn wrote(self, content: Content) -> Entry
+        ensures { result ≡ wrote self content }
+    {
+        match self {
+            Entry::New { function, args, .. } => Entry::New {
+                function,
+                args,
+                content,
+            },
+            Entry::Blank | Entry::Read { .. } | Entry::Dropped { .. } => self,
+        }
+    }
+
+    /// The number of the source that a record reads.
+    pub(crate) fn source(&self) -> Option<u16>
+        ensures { SourceIs (source_of self.now) result }
+    {
+        match self {
+            Entry::Read { source, .. } => source_number(*source),
+            Entry::Blank | Entry::New { .. } | Entry::Dropped { .. } => None,
         }
     }
 }

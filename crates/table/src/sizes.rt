@@ -1,7 +1,8 @@
 // How much a table holds.
+use crate::limit::methods::MOST_RECORDS;
 
 /// The record places: two for each record that the largest limit allows.
-pub(crate) const PLACES: usize = 1024;
+pub(crate) const PLACES: usize = 2 * MOST_RECORDS as usize;
 
 /// The most inputs of a program.
 pub(crate) const INPUTS: usize = 256;

@@ -1,4 +1,4 @@
-ghost use Rattle.std.specs.Prelude.{◌≡◌, length};
+ghost use Rattle.std.specs.Prelude.{◌≡◌, ◌≤◌, length};
 
 use crate::readers::Readers;
 use crate::record::Record;
@@ -21,6 +21,7 @@ pub struct Table {
     /// The place whose record has a stamp.
     owners: [u16; STAMPS],
     /// The free places, a stack, and how many there are.
+    // Nothing is allocated once a program is checked: so a stack in fixed memory, with its length beside it.
     spare: [u16; PLACES],
     spares: u16,
     /// How many records may still be made.
@@ -32,4 +33,6 @@ pub struct Table {
     ghost kept: { length noted ≡ 256 },
     ghost broad: { length owners ≡ 4096 },
     ghost deep: { length spare ≡ 1024 },
+    ghost few: { spares ≤ 1024 },
+    ghost enough: { room ≤ spares },
 }

@@ -2,13 +2,13 @@
 use Rattle.std.specs.Prelude.{◌≡◌, cond, List, ℕ, zero, suc, ◌+◌, leb, get_or}
 use Rattle.std.proofs.Math.Option.{Option, some, none}
 use Rattle.program.specs.View.{View}
+pub use Rattle.program.specs.Contents.{content_of_input}
 use Rattle.program.specs.declared.value.Name.TheVariants.{Input, Made}
-use Rattle.program.specs.declared.value.Content.{Content}
-use Rattle.program.specs.declared.value.Content.TheVariants.{Number, Empty, Cell}
+use Rattle.program.specs.declared.value.Content.TheVariants.{Empty}
 use Rattle.trace.specs.Code.{Code, Next, writes, makes, reads, next, resume, enter, entered, arguments, main}
 use Rattle.trace.specs.Trace.{Trace, write, new, read, written, size, places, Store, put, after, Distinct}
 use Rattle.program.specs.declared.value.InputContent.{InputContent}
-use Rattle.program.specs.declared.value.InputContent.TheVariants.{Number as number, Empty as empty, Cell as cell}
+use Rattle.program.specs.declared.value.InputContent.TheVariants.{Empty as empty}
 
 module _ (P : View) where
   -- `Follows t c`: the trace t is what the code c leaves, given the contents that its reads took
@@ -30,12 +30,6 @@ pub record Run (P : View) (c : Code) (σ : Store) (t : Trace) : Type 0 where
   pub all_kept : Kept t σ
 
 -- ── inputs ──
-
--- what an input holds, as a content
-abbrev pub content_of_input : InputContent → Content
-content_of_input (number z) = Number z
-content_of_input empty = Empty
-content_of_input (cell h t) = Cell (Input h) (Input t)
 
 -- the store in which a run on the inputs begins: each input has its content, one that is not there (unreachable: a sound program names
 -- inputs that are there) is empty, and nothing is made, so that what a `Made n` holds is never read

@@ -3,10 +3,8 @@ ghost use Rattle.std.specs.Prelude.{◌≡◌, ◌<◌, ◌≤◌, map, length};
 ghost use Rattle.program.specs.Arith.{applied};
 ghost use Rattle.program.specs.View.{View, viewed, tail_viewed};
 ghost use Rattle.program.specs.declared.value.Value.TheVariants.{Number as NumberValue};
-ghost use Rattle.program.specs.declared.value.Content.TheVariants.{Number as NumberContent, Cell as CellContent};
-ghost use Rattle.trace.specs.Code.{register, value_number, value_name, finish, next, makes, reads};
-ghost use Rattle.code.specs.Args.{listed};
-ghost use Rattle.code.specs.Readers.{reader_of};
+ghost use Rattle.trace.specs.Code.{register, value_number, value_name, finish, next, makes};
+ghost use Rattle.code.specs.Values.{listed};
 ghost use Rattle.code.specs.Shown.{held, shown, Defined};
 ghost use Rattle.code.specs.Told.{told, TailFits, behind};
 
@@ -21,6 +19,7 @@ use program::value::{Content, Name, Value};
 
 impl Running {
     /// The number in a register; a modifiable counts as 0.
+    // In a checked program neither this nor the next default is ever reached; an Option here would only move it to each caller.
     fn number(&self, i: usize) -> i32
         ensures { result ≡ value_number (register (held self.now) i) }
     {
@@ -59,30 +58,13 @@ impl Running {
         Value::Number(op.apply(self.number(left), self.number(right)))
     }
 
-    /// The number in a register, as it is written.
-    fn number_content(&self, i: usize) -> Content
-        ensures { result ≡ NumberContent (value_number (register (held self.now) i)) }
-    {
-        Content::Number(self.number(i))
-    }
-
-    /// The cell of two registers.
-    fn cell_content(&self, head: usize, tail: usize) -> Content
-        ensures { result ≡ CellContent (value_name (register (held self.now) head)) (value_name (register (held self.now) tail)) }
-    {
-        Content::Cell {
-            head: self.name(head),
-            tail: self.name(tail),
-        }
-    }
-
     /// The command at hand is done, and defines a register.
     fn define(&mut self, value: Value)
         requires { self.old.at < 16 }
         ensures { Defined self.old value self.new }
     {
         self.at += 1;
-        self.push(value);
+        self.registers.push(value);
     }
 
     /// The command at hand makes a modifiable, and the function waits behind it.
@@ -92,28 +74,12 @@ impl Running {
         requires named { length named.now ≤ 6 }
         ensures { (P : View) → told P result ≡ makes function (map (register (held self)) named.now) (behind P self) }
     {
-        let args = self.pick(named);
-        let registers = self.registers;
-        let rest = Waiting {
-            registers,
-            count: self.count,
-            function: self.function,
-            at: self.at + 1,
-        };
+        let mut running = self;
+        running.at += 1;
         Next::Makes {
             function: function as u8,
-            args,
-            rest,
-        }
-    }
-
-    /// Reads the modifiable in a register.
-    fn reads(&self, source: usize, reader: Reader) -> Next
-        ensures { (P : View) → told P result ≡ reads (value_name (register (held self.now) source)) (reader_of reader) }
-    {
-        Next::Reads {
-            source: self.name(source),
-            reader,
+            args: self.pick(named),
+            rest: Waiting { running },
         }
     }
 
@@ -123,29 +89,36 @@ impl Running {
         ensures { (P : View) → told P result ≡ finish (tail_viewed tail.now) (held self.now) }
     {
         match tail {
-            Tail::Put { number } => Next::Writes(self.number_content(*number)),
+            Tail::Put { number } => Next::Writes(Content::Number(self.number(*number))),
             Tail::Nil => Next::Writes(Content::Empty),
-            Tail::Con { head, tail } => Next::Writes(self.cell_content(*head, *tail)),
+            Tail::Con { head, tail } => Next::Writes(Content::Cell {
+                head: self.name(*head),
+                tail: self.name(*tail),
+            }),
             Tail::Get {
                 source,
                 function,
                 args,
-            } => {
-                let args = self.pick(args);
-                let function = *function as u8;
-                self.reads(*source, Reader::Get { function, args })
-            }
+            } => Next::Reads {
+                source: self.name(*source),
+                reader: Reader::Get {
+                    function: *function as u8,
+                    args: self.pick(args),
+                },
+            },
             Tail::Cas {
                 source,
                 empty,
                 cell,
                 args,
-            } => {
-                let args = self.pick(args);
-                let empty = *empty as u8;
-                let cell = *cell as u8;
-                self.reads(*source, Reader::Cas { empty, cell, args })
-            }
+            } => Next::Reads {
+                source: self.name(*source),
+                reader: Reader::Cas {
+                    empty: *empty as u8,
+                    cell: *cell as u8,
+                    args: self.pick(args),
+                },
+            },
         }
     }
 
@@ -157,8 +130,8 @@ impl Running {
             return Next::Writes(Content::Empty);
         };
         let mut code = self;
-        while (code.at as usize) < function.commands.len() {
-            match &function.commands[code.at as usize] {
+        while let Some(command) = function.commands.get(code.at as usize) {
+            match command {
                 Command::Lit { value } => code.define(Value::Number(*value)),
                 Command::Apply { op, left, right } => {
                     let value = code.apply(*op, *left, *right);

@@ -1,9 +1,8 @@
 // The calls on a sheet.
 ghost use Rattle.std.specs.Prelude.{◌≡◌};
-ghost use Rattle.sheet.specs.Shows.{takes_pass, Sound};
 ghost use Rattle.history.specs.Calls.{OPEN, POST, WITHDRAW, SETTLE, resting, unsettled, opened};
 ghost use Rattle.history.specs.History.{a_pass};
-ghost use Rattle.sheet.specs.Answers.{open_answer, rest_answer, settle_answer, HandsBack, SettleHandsBack, Serves, Settles};
+ghost use Rattle.sheet.specs.Answers.{Admits, open_answer, rest_answer, settle_answer, HandsBack, SettleHandsBack, Serves, Settles};
 
 use crate::fitting::fit;
 use crate::pass::{OpenPass, UnsettledPass};
@@ -14,11 +13,18 @@ use order_list::list::OrderList;
 use program::value::InputContent;
 
 impl<O: OrderList> Sheet<O> {
-    /// Whether the sheet takes a pass of this number that goes with this state.
-    fn takes(&self, number: u16, state: State) -> bool
-        ensures { result ≡ takes_pass self.now number state }
+    /// The pass, if it bears the sheet's number and goes with its state.
+    fn admit<P>(&self, number: u16, state: State, pass: P) -> Result<P, Refused<P>>
+        ensures { Admits self.now number state pass result }
     {
-        number == self.number && state == self.state
+        if number == self.number && state == self.state {
+            Ok(pass)
+        } else {
+            Err(Refused {
+                refusal: Refusal::WrongPass,
+                pass,
+            })
+        }
     }
 
     /// Opens the sheet for posts: spends the resting pass for an open one.
@@ -26,12 +32,7 @@ impl<O: OrderList> Sheet<O> {
         ensures serves { Serves O.OrderList self.old (OPEN (a_pass (resting unsettled) pass.0)) (open_answer result) self.new }
         ensures back { HandsBack pass result }
     {
-        if !self.takes(pass.0, State::Unsettled) {
-            return Err(Refused {
-                refusal: Refusal::WrongPass,
-                pass,
-            });
-        }
+        let pass = self.admit(pass.0, State::Unsettled, pass)?;
         self.table.note_inputs();
         self.state = State::Open;
         Ok(pass.opened())
@@ -47,12 +48,7 @@ impl<O: OrderList> Sheet<O> {
         ensures serves { Serves O.OrderList self.old (POST (a_pass opened pass.0) input content) (open_answer result) self.new }
         ensures back { HandsBack pass result }
     {
-        if !self.takes(pass.0, State::Open) {
-            return Err(Refused {
-                refusal: Refusal::WrongPass,
-                pass,
-            });
-        }
+        let pass = self.admit(pass.0, State::Open, pass)?;
         if let Err(refusal) = fit(&self.program, input, content) {
             return Err(Refused { refusal, pass });
         }
@@ -65,12 +61,7 @@ impl<O: OrderList> Sheet<O> {
         ensures serves { Serves O.OrderList self.old (WITHDRAW (a_pass opened pass.0)) (rest_answer result) self.new }
         ensures back { HandsBack pass result }
     {
-        if !self.takes(pass.0, State::Open) {
-            return Err(Refused {
-                refusal: Refusal::WrongPass,
-                pass,
-            });
-        }
+        let pass = self.admit(pass.0, State::Open, pass)?;
         self.table.put_inputs_back();
         self.state = State::Unsettled;
         Ok(pass.unsettled())
@@ -78,16 +69,10 @@ impl<O: OrderList> Sheet<O> {
 
     /// Settles an open sheet: runs the program anew on its inputs.
     pub fn settle(&mut self, pass: OpenPass) -> Result<Settled, NotSettled>
-        requires { Sound O.OrderList self.old }
         ensures settles { Settles O.OrderList self.old (SETTLE (a_pass opened pass.0)) (settle_answer result) self.new }
         ensures back { SettleHandsBack pass result }
     {
-        if !self.takes(pass.0, State::Open) {
-            return Err(NotSettled::Refused(Refused {
-                refusal: Refusal::WrongPass,
-                pass,
-            }));
-        }
+        let pass = self.admit(pass.0, State::Open, pass)?;
         match self
             .table
             .run_anew(&mut self.list, &self.program, self.limit)

@@ -1,6 +1,6 @@
 // How a sheet is made.
-ghost use Rattle.std.specs.Prelude.{◌≡◌, ◌+◌, ◌*◌, nat_le};
-ghost use Rattle.sheet.specs.Making.{Makes};
+ghost use Rattle.std.specs.Prelude.{◌≡◌};
+ghost use Rattle.sheet.specs.Making.{Allowed, Makes};
 
 use crate::pass::UnsettledPass;
 use crate::refusal::{MakeRefusal, Unmade};
@@ -10,11 +10,16 @@ use program::program::Program;
 use table::limit::Limit;
 use table::table::Table;
 
-/// Whether a list of this capacity has room for the base and the stamps of 2L records.
-fn has_room(capacity: usize, limit: Limit) -> bool
-    ensures { result ≡ nat_le (4 * limit.value + 1) capacity }
+/// The limit, where it is one and a list of this capacity has room for the base and the stamps of 2L records.
+fn allowed(capacity: usize, limit: u16) -> Result<Limit, MakeRefusal>
+    ensures { Allowed capacity limit result }
 {
-    4 * limit.value() as usize + 1 <= capacity
+    let limit = Limit::new(limit).ok_or(MakeRefusal::Limit)?;
+    if 4 * limit.value() as usize + 1 <= capacity {
+        Ok(limit)
+    } else {
+        Err(MakeRefusal::Capacity)
+    }
 }
 
 impl<O: OrderList + Drop> Sheet<O> {
@@ -27,29 +32,22 @@ impl<O: OrderList + Drop> Sheet<O> {
         number: u16,
         limit: u16,
     ) -> Result<UnsettledPass, Unmade<O>>
-        requires { O.OrderList.sound list }
         ensures { Makes O.OrderList place.old list program number limit result place.new }
     {
-        let Some(allowed) = Limit::new(limit) else {
-            return Err(Unmade {
-                refusal: MakeRefusal::Limit,
+        let limit = match allowed(list.capacity(), limit) {
+            Ok(limit) => limit,
+            Err(refusal) => return Err(Unmade {
+                refusal,
                 list,
                 program,
-            });
+            }),
         };
-        if !has_room(list.capacity(), allowed) {
-            return Err(Unmade {
-                refusal: MakeRefusal::Capacity,
-                list,
-                program,
-            });
-        }
         list.clear();
-        let table = Table::new(&program, allowed);
+        let table = Table::new(&program, limit);
         *place = Some(Sheet {
             program,
             number,
-            limit: allowed,
+            limit,
             state: State::Unsettled,
             table,
             list,

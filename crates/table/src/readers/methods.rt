@@ -1,19 +1,20 @@
 ghost use Rattle.std.specs.Prelude.{ℕ, ◌<◌, List, []};
 ghost use Rattle.table.specs.Rings.{Unlinked, Rings, Joins};
 
-use crate::counted::count_up;
-use crate::readers::{NODES, Readers};
+use crate::readers::{Links, Readers};
 use crate::sizes::PLACES;
+use std::array;
 
 impl Readers {
-    /// No source has a reader.
+    /// No source has a reader: each node is linked to itself.
     pub(crate) fn new() -> Readers
         ensures { Rings result (λ _. []) }
     {
-        let links = count_up::<NODES>();
         Readers {
-            next: links,
-            previous: links,
+            nodes: array::from_fn(|node| Links {
+                next: node as u16,
+                previous: node as u16,
+            }),
         }
     }
 
@@ -25,10 +26,12 @@ impl Readers {
         ensures { Joins self.old self.new source place }
     {
         let head = PLACES + source as usize;
-        let first = self.next[head];
-        self.next[place as usize] = first;
-        self.previous[place as usize] = head as u16;
-        self.next[head] = place;
-        self.previous[first as usize] = place;
+        let first = self.nodes[head].next;
+        self.nodes[place as usize] = Links {
+            next: first,
+            previous: head as u16,
+        };
+        self.nodes[head].next = place;
+        self.nodes[first as usize].previous = place;
     }
 }

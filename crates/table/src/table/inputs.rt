@@ -24,8 +24,7 @@ impl Table {
         ensures inputs { self.new.inputs ≡ self.old.inputs }
         ensures stays { Stays self.old self.new }
     {
-        let inputs = self.inputs;
-        self.noted = inputs;
+        self.noted.copy_from_slice(&self.inputs);
     }
 
     /// Puts the inputs back as they were noted.
@@ -34,7 +33,6 @@ impl Table {
         ensures noted { self.new.noted ≡ self.old.noted }
         ensures stays { Stays self.old self.new }
     {
-        let noted = self.noted;
-        self.inputs = noted;
+        self.inputs.copy_from_slice(&self.noted);
     }
 }

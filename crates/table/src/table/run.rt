@@ -1,17 +1,15 @@
 // The run: how a table and a list are filled with the records of a program.
-ghost use Rattle.std.specs.Prelude.{◌≡◌, ◌<◌, [], ◌∷◌, length};
+ghost use Rattle.std.specs.Prelude.{◌≡◌, ◌+◌, ◌*◌, ◌<◌, ◌≤◌, [], ◌∷◌, length};
 ghost use Rattle.table.specs.Stamps.{Member, Moved};
 ghost use Rattle.program.specs.View.{viewed};
 ghost use Rattle.code.specs.Shown.{shown};
 ghost use Rattle.trace.specs.Code.{main};
-ghost use Rattle.table.specs.Changes.{SameInputs};
-ghost use Rattle.table.specs.Ran.{Open, Ending, Begins, HasEnded, Ends};
-ghost use Rattle.table.specs.Anew.{Sound, Anew};
+ghost use Rattle.table.specs.Runs.{MayRun, MayEnd, RunBegins, RunHasEnded, RunEnds, Keeps};
+ghost use Rattle.table.specs.Anew.{Anew};
 
 use crate::limit::Limit;
 use crate::record::{Entry, Record, TooLarge};
 use crate::table::Table;
-use crate::table::places::wrote;
 use code::args::Args;
 use code::next::Next;
 use code::running::Running;
@@ -33,13 +31,19 @@ pub(crate) struct Written {
     cursor: u16,
 }
 
+/// A run of a program: the table and the list that it fills.
+#[derive(Drop)]
+pub(crate) struct Run<'a, O: OrderList> {
+    table: &'a mut Table,
+    list: &'a mut O,
+    program: &'a Program,
+}
+
 /// A stamp directly behind the cursor.
 fn stamp<O: OrderList>(list: &mut O, cursor: u16) -> u16
-    requires sound { O.OrderList.sound list.old }
     requires member { Member (O.OrderList.order list.old) cursor }
     requires room { length (O.OrderList.order list.old) < O.OrderList.size list.old }
     ensures moved { Moved (O.OrderList.order list.old) cursor (result ∷ []) (O.OrderList.order list.new) result }
-    ensures sound { O.OrderList.sound list.new }
     ensures below { result < 4096 }
     ensures same { O.OrderList.size list.new ≡ O.OrderList.size list.old }
 {
@@ -49,24 +53,16 @@ fn stamp<O: OrderList>(list: &mut O, cursor: u16) -> u16
     }
 }
 
-impl Table {
+impl<O: OrderList> Run<'_, O> {
     /// A record begins at a free place, with its start directly behind the cursor.
-    fn begin<O: OrderList>(
-        &mut self,
-        list: &mut O,
-        entry: Entry,
-        cursor: u16,
-    ) -> Result<Begun, TooLarge>
-        requires sound { O.OrderList.sound list.old }
-        requires room { Open self.old (O.OrderList.size list.old) (O.OrderList.order list.old) cursor }
-        ensures begins { Begins self.old self.new (O.OrderList.order list.old) (O.OrderList.order list.new) cursor entry result }
-        ensures inputs { SameInputs self.old self.new }
-        ensures sound { O.OrderList.sound list.new }
-        ensures same { O.OrderList.size list.new ≡ O.OrderList.size list.old }
+    fn begin(&mut self, entry: Entry, cursor: u16) -> Result<Begun, TooLarge>
+        requires { MayRun O.OrderList self.old cursor }
+        ensures begins { RunBegins O.OrderList self.old self.new cursor entry result }
+        ensures keeps { Keeps O.OrderList self.old self.new }
     {
-        let place = self.take()?;
-        let start = stamp(list, cursor);
-        self.enter(
+        let place = self.table.take()?;
+        let start = stamp(self.list, cursor);
+        self.table.enter(
             place,
             Record {
                 entry,
@@ -74,55 +70,37 @@ impl Table {
                 end: start,
             },
         );
-        self.own(start, place);
+        self.table.own(start, place);
         Ok(Begun { place, start })
     }
 
     /// The record at a place ends, with its end directly behind the cursor; the modifiable of a NEW then holds the content.
-    fn finish<O: OrderList>(
-        &mut self,
-        list: &mut O,
-        place: u16,
-        content: Content,
-        cursor: u16,
-    ) -> u16
-        requires sound { O.OrderList.sound list.old }
-        requires ending { Ending self.old (O.OrderList.size list.old) (O.OrderList.order list.old) cursor place }
-        ensures ended { HasEnded self.old self.new (O.OrderList.order list.old) (O.OrderList.order list.new) cursor place content result }
-        ensures sound { O.OrderList.sound list.new }
-        ensures same { O.OrderList.size list.new ≡ O.OrderList.size list.old }
+    fn finish(&mut self, place: u16, content: Content, cursor: u16) -> u16
+        requires { MayEnd O.OrderList self.old cursor place }
+        ensures ended { RunHasEnded O.OrderList self.old self.new cursor place content result }
+        ensures keeps { Keeps O.OrderList self.old self.new }
     {
-        let end = stamp(list, cursor);
-        let record = self.record(place);
-        self.put(
+        let end = stamp(self.list, cursor);
+        let record = self.table.record(place);
+        self.table.put(
             place,
             Record {
-                entry: wrote(record.entry, content),
+                entry: record.entry.wrote(content),
                 start: record.start,
                 end,
             },
         );
-        self.own(end, place);
+        self.table.own(end, place);
         end
     }
 
     /// Runs a function up to the write of its destination, the modifiable of the record at that place.
-    fn run<O: OrderList>(
-        &mut self,
-        list: &mut O,
-        program: &Program,
-        running: Running,
-        destination: u16,
-        cursor: u16,
-    ) -> Result<Written, TooLarge>
-        requires sound { O.OrderList.sound list.old }
-        requires room { Open self.old (O.OrderList.size list.old) (O.OrderList.order list.old) cursor }
-        ensures ends { Ends (viewed program.now) (shown (viewed program.now) running) destination self.old self.new (O.OrderList.order list.old) (O.OrderList.order list.new) cursor result }
-        ensures inputs { SameInputs self.old self.new }
-        ensures sound { O.OrderList.sound list.new }
-        ensures same { O.OrderList.size list.new ≡ O.OrderList.size list.old }
+    fn run(&mut self, running: Running, destination: u16, cursor: u16) -> Result<Written, TooLarge>
+        requires { MayRun O.OrderList self.old cursor }
+        ensures ends { RunEnds O.OrderList (shown (viewed self.old.program.now) running) destination self.old self.new cursor result }
+        ensures keeps { Keeps O.OrderList self.old self.new }
     {
-        match running.next(program) {
+        match running.next(self.program) {
             Next::Writes(content) => Ok(Written { content, cursor }),
             Next::Makes {
                 function,
@@ -134,25 +112,25 @@ impl Table {
                     args,
                     content: Content::Empty,
                 };
-                let begun = self.begin(list, entry, cursor)?;
+                let begun = self.begin(entry, cursor)?;
                 let inner = Running::enter(function, args);
-                let wrote = self.run(list, program, inner, begun.place, begun.start)?;
-                let end = self.finish(list, begun.place, wrote.content, wrote.cursor);
+                let wrote = self.run(inner, begun.place, begun.start)?;
+                let end = self.finish(begun.place, wrote.content, wrote.cursor);
                 let resumed = rest.resume(begun.place);
-                self.run(list, program, resumed, destination, end)
+                self.run(resumed, destination, end)
             }
             Next::Reads { source, reader } => {
-                let taken = self.content(source);
+                let taken = self.table.content(source);
                 let entry = Entry::Read {
                     source,
                     reader,
                     taken,
                     destination,
                 };
-                let begun = self.begin(list, entry, cursor)?;
+                let begun = self.begin(entry, cursor)?;
                 let entered = reader.enter(taken);
-                let wrote = self.run(list, program, entered, destination, begun.start)?;
-                let end = self.finish(list, begun.place, wrote.content, wrote.cursor);
+                let wrote = self.run(entered, destination, begun.start)?;
+                let end = self.finish(begun.place, wrote.content, wrote.cursor);
                 Ok(Written {
                     content: wrote.content,
                     cursor: end,
@@ -162,34 +140,29 @@ impl Table {
     }
 
     /// Runs the whole program: a NEW of function 0, given the inputs of RUN.
-    fn run_main<O: OrderList>(
-        &mut self,
-        list: &mut O,
-        program: &Program,
-    ) -> Result<Written, TooLarge>
-        requires sound { O.OrderList.sound list.old }
-        requires room { Open self.old (O.OrderList.size list.old) (O.OrderList.order list.old) 0 }
-        ensures ends { Ends (viewed program.now) (main (viewed program.now)) 1024 self.old self.new (O.OrderList.order list.old) (O.OrderList.order list.new) 0 result }
-        ensures inputs { SameInputs self.old self.new }
-        ensures sound { O.OrderList.sound list.new }
-        ensures same { O.OrderList.size list.new ≡ O.OrderList.size list.old }
+    fn run_main(&mut self) -> Result<Written, TooLarge>
+        requires { MayRun O.OrderList self.old 0 }
+        ensures ends { RunEnds O.OrderList (main (viewed self.old.program.now)) 1024 self.old self.new 0 result }
+        ensures keeps { Keeps O.OrderList self.old self.new }
     {
-        let args = Args::of_run(program);
+        let args = Args::of_run(self.program);
         let entry = Entry::New {
             function: 0,
             args,
             content: Content::Empty,
         };
-        let begun = self.begin(list, entry, 0)?;
+        let begun = self.begin(entry, 0)?;
         let first = Running::enter(0, args);
-        let wrote = self.run(list, program, first, begun.place, begun.start)?;
-        let end = self.finish(list, begun.place, wrote.content, wrote.cursor);
+        let wrote = self.run(first, begun.place, begun.start)?;
+        let end = self.finish(begun.place, wrote.content, wrote.cursor);
         Ok(Written {
             content: Content::Empty,
             cursor: end,
         })
     }
+}
 
+impl Table {
     /// Runs the program anew, and answers how many records were made; beyond the limit nothing stands.
     pub fn run_anew<O: OrderList>(
         &mut self,
@@ -197,12 +170,18 @@ impl Table {
         program: &Program,
         limit: Limit,
     ) -> Result<u16, TooLarge>
-        requires { Sound O.OrderList limit.value self.old list.old }
+        requires { 4 * limit.value + 1 ≤ O.OrderList.size list.old }
         ensures anew { Anew O.OrderList (viewed program.now) limit.value self.old self.new list.new result }
         ensures same { O.OrderList.size list.new ≡ O.OrderList.size list.old }
     {
         self.clear(list, limit);
-        match self.run_main(list, program) {
+        let mut run = Run {
+            table: self,
+            list,
+            program,
+        };
+        let outcome = run.run_main();
+        match outcome {
             Ok(_) => Ok(limit.value() - self.room),
             Err(too_large) => {
                 self.clear(list, limit);

@@ -1,10 +1,9 @@
 // Tables in which nothing stands.
-ghost use Rattle.std.specs.Prelude.{◌≡◌, ℕ, ◌+◌, ◌*◌, ◌≤◌, length, slice_index_or};
+ghost use Rattle.std.specs.Prelude.{◌≡◌, ℕ, ◌+◌, ◌*◌, ◌<◌, ◌≤◌, cond, nat_lt, pos, slice_index};
 ghost use Rattle.program.specs.View.{viewed};
-ghost use Rattle.table.specs.Records.{blank};
+ghost use Rattle.program.specs.declared.value.InputContent.TheVariants.{Number, Empty};
 ghost use Rattle.table.specs.Anew.{Vacant, Zeros, Cleared};
 
-use crate::counted::count_up;
 use crate::limit::Limit;
 use crate::readers::Readers;
 use crate::record::Record;
@@ -13,6 +12,7 @@ use crate::table::Table;
 use order_list::list::OrderList;
 use program::program::Program;
 use program::value::InputContent;
+use std::array;
 
 /// How many places a sheet has: two for each record that its limit allows.
 fn places_for(limit: Limit) -> u16
@@ -21,24 +21,29 @@ fn places_for(limit: Limit) -> u16
     2 * limit.value()
 }
 
-/// All places blank.
-fn blanks() -> [Record; PLACES]
-    ensures long { length result ≡ 1024 }
-    ensures blank { (q : ℕ) → slice_index_or result q blank ≡ blank }
+/// All places, 0, 1, 2 ..
+fn all_places() -> [u16; PLACES]
+    ensures { (i : ℕ) → i < 1024 → slice_index result i ≡ i }
 {
-    [Record::blank(); PLACES]
+    array::from_fn(|place| place as u16)
 }
 
-/// The inputs at first: 0 for those that have a number, and empty for the others.
-fn zeros(program: &Program) -> [InputContent; INPUTS]
-    ensures long { length result ≡ 256 }
-    ensures zeros { Zeros (viewed program.now) result }
+/// What an input holds at first: 0 if it has a number, else the empty list.
+fn at_first(program: &Program, k: usize) -> InputContent
+    ensures { result ≡ cond (nat_lt k (viewed program.now).numbers) (Number (pos 0)) Empty }
 {
-    let mut inputs = [InputContent::Empty; INPUTS];
-    for k in 0..program.numbers {
-        inputs[k] = InputContent::Number(0);
+    if k < program.numbers {
+        InputContent::Number(0)
+    } else {
+        InputContent::Empty
     }
-    inputs
+}
+
+/// The inputs at first.
+fn zeros(program: &Program) -> [InputContent; INPUTS]
+    ensures { Zeros (viewed program.now) result }
+{
+    array::from_fn(|k| at_first(program, k))
 }
 
 impl Table {
@@ -50,11 +55,11 @@ impl Table {
     {
         let inputs = zeros(program);
         Table {
-            records: blanks(),
+            records: [Record::BLANK; PLACES],
             inputs,
             noted: inputs,
             owners: [0; STAMPS],
-            spare: count_up::<PLACES>(),
+            spare: all_places(),
             spares: places_for(limit),
             room: 0,
             readers: Readers::new(),
@@ -63,14 +68,13 @@ impl Table {
 
     /// Takes all records out, and their stamps; as many may then be made as the limit says.
     pub(crate) fn clear<O: OrderList>(&mut self, list: &mut O, limit: Limit)
-        requires sound { O.OrderList.sound list.old }
-        requires wide { 4 * limit.value + 1 ≤ O.OrderList.size list.old }
+        requires { 4 * limit.value + 1 ≤ O.OrderList.size list.old }
         ensures cleared { Cleared O.OrderList limit.value self.old self.new list.new }
         ensures same { O.OrderList.size list.new ≡ O.OrderList.size list.old }
     {
         list.clear();
-        self.records = blanks();
-        self.spare = count_up::<PLACES>();
+        self.records = [Record::BLANK; PLACES];
+        self.spare = all_places();
         self.spares = places_for(limit);
         self.readers = Readers::new();
         self.room = limit.value();

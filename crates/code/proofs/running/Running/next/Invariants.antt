@@ -4,8 +4,8 @@ use Rattle.trace.specs.Code.{next}
 use Rattle.code.specs.Shown.{shown}
 use Rattle.code.proofs.running.Running.next.Given as goal
 
-abbrev pub invariant-loop-code : goal.invariant-loop-code
-invariant-loop-code l = (next (viewed l.program) (shown (viewed l.program) l.code) ≡ next (viewed l.program) (shown (viewed l.program) l.initial.code)) × (l.code.function ≡ l.initial.code.function)
+abbrev pub invariant-loop-command : goal.invariant-loop-command
+invariant-loop-command l = (next (viewed l.program) (shown (viewed l.program) l.code) ≡ next (viewed l.program) (shown (viewed l.program) l.initial.code)) × (l.code.function ≡ l.initial.code.function)
 
-abbrev pub decreases-loop-code : goal.decreases-loop-code
-decreases-loop-code l = vec_len l.function.commands - l.code.at
+abbrev pub decreases-loop-command : goal.decreases-loop-command
+decreases-loop-command l = vec_len l.function.commands - l.code.at

@@ -1,21 +1,21 @@
-use Rattle.std.proofs.Common.{◌∙◌}
+use Rattle.std.proofs.Common.{rules}
+use Rattle.table.specs.Anew.{Cleared}
 use Rattle.table.proofs.Mains.{may_run, ran_anew, exceeded}
 use Rattle.table.proofs.table.Table.run_anew.Goals as goal
 
-pub run_main-requires : goal.run_main-requires
-run_main-requires g c =
+pub run_main-outcome-requires : goal.run_main-outcome-requires
+run_main-outcome-requires g c =
     let h = c.clear.ensures.cleared in
-    record { sound = h.holding.in_order; room = may_run h.holding.standing h.room h.same }
+    may_run h.holding.standing h.room h.same
 
-pub returns-in-Ok : goal.returns-in-Ok
-returns-in-Ok g c =
+pub returns-in-Ok-clause-anew : goal.returns-in-Ok-clause-anew
+returns-in-Ok-clause-anew g c =
     let r = c.in-Ok.ensures in
-    let h = c.clear.ensures in
-    record { anew = ran_anew h.cleared r.ends r.sound r.same c.value.ensures; same = r.same ∙ h.same }
+    let h = ran_anew c.clear.ensures.cleared r.ends r.keeps.capacity c.value.ensures in
+    search rules
 
-pub returns-in-Err : goal.returns-in-Err
-returns-in-Err g c =
+pub returns-in-Err-clause-anew : goal.returns-in-Err-clause-anew
+returns-in-Err-clause-anew g c =
     let r = c.in-Err.ensures in
-    let h = c.clear.ensures in
-    let k = c.clear-in-Err.ensures in
-    record { anew = exceeded h.cleared r.ends r.inputs k.cleared; same = k.same ∙ r.same ∙ h.same }
+    let h : Cleared g.O.OrderList c.args.limit.value c.run_main-outcome.new.self.table.now c.clear-in-Err.new.self c.clear-in-Err.new.list = let k = c.clear-in-Err.ensures.cleared in search rules in
+    exceeded c.clear.ensures.cleared r.ends r.keeps.inputs h

@@ -8,10 +8,9 @@ unreachable-requires g c = not_refused _ _ _ _ c.requires.member c.requires.room
 pub returns : goal.returns
 returns g c =
     let h = c.in-Ok.ensures in
-    let l = g.O.OrderList.lawful c.args.list.now c.requires.sound in
+    let l = g.met.O.OrderList.lawful c.args.list.now in
     record {
       moved = moved_one _ _ _ _ l.apart h.done.3;
-      sound = h.kept;
       below = (let a = h.done.2 in let b = l.few in omega (arith, a, b));
       same = h.same;
     }
