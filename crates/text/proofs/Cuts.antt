@@ -21,7 +21,7 @@ pub record Cut (k j : ℕ) (bs : List ℕ) : Type 0 where
   pub cut : lines_in bs ≡ (true, take size bs) ∷ lines_in (drop (suc size) bs)
 
 pub cut_at : (k j : ℕ) (bs : List ℕ) → line_end k bs ≡ Some j → Cut k j bs
-cut_at k j [] e = absurd (let z : ◌≡◌ {A = ℕ} 0 1 = cc in omega arith)
+cut_at k j [] e = cc
 cut_at k j (b ∷ bs) e =
     ⊎_elim
     (λ h. let x : line_end k (b ∷ bs) ≡ Some k = ap (λ t. cond t (Some k) (line_end (k + 1) bs)) h.0 in
@@ -44,12 +44,12 @@ cut_at k j (b ∷ bs) e =
 pub uncut : (k b : ℕ) (bs : List ℕ) → line_end k (b ∷ bs) ≡ None → lines_in (b ∷ bs) ≡ (false, b ∷ bs) ∷ []
 uncut k b [] e =
     ⊎_elim
-    (λ h. absurd (let x : line_end k (b ∷ []) ≡ Some k = ap (λ t. cond t (Some k) (line_end (k + 1) [])) h.0 in let z : ◌≡◌ {A = ℕ} 0 1 = cc in omega arith))
+    (λ h. absurd (let x : line_end k (b ∷ []) ≡ Some k = ap (λ t. cond t (Some k) (line_end (k + 1) [])) h.0 in cc))
     (λ h. ap (λ t. cond t ((true, []) ∷ lines_in []) (longer b (lines_in []))) h.0)
     (eqb_tells b 10)
 uncut k b (c ∷ bs) e =
     ⊎_elim
-    (λ h. absurd (let x : line_end k (b ∷ c ∷ bs) ≡ Some k = ap (λ t. cond t (Some k) (line_end (k + 1) (c ∷ bs))) h.0 in let z : ◌≡◌ {A = ℕ} 0 1 = cc in omega arith))
+    (λ h. absurd (let x : line_end k (b ∷ c ∷ bs) ≡ Some k = ap (λ t. cond t (Some k) (line_end (k + 1) (c ∷ bs))) h.0 in cc))
     (λ h. let x : line_end k (b ∷ c ∷ bs) ≡ line_end (k + 1) (c ∷ bs) = ap (λ t. cond t (Some k) (line_end (k + 1) (c ∷ bs))) h.0 in
     ap (λ t. cond t ((true, []) ∷ lines_in (c ∷ bs)) (longer b (lines_in (c ∷ bs)))) h.0 ∙ ap (longer b) (uncut (k + 1) c bs (sym x ∙ e)))
     (eqb_tells b 10)
@@ -90,10 +90,10 @@ none_stands n bs y r = ap (standing n) r.lines ∙ ap (λ o. cond (no_fault o) (
 
 ok_cond : {T E : Type 0} (b : Bool) (x : Result T E) (e : E) (y : T) → cond b x (Err e) ≡ Ok y → x ≡ Ok y
 ok_cond true x e y p = p
-ok_cond false x e y p = absurd (let z : ◌≡◌ {A = ℕ} 0 1 = cc in omega arith)
+ok_cond false x e y p = cc
 
 worded_said : (n : ℕ) (o : Option Word) (fs : List ℕ) (x : Told) → worded n o fs ≡ Ok x → x ≡ (n, (or_nil o, numbers_in fs))
-worded_said n None fs x p = absurd (let z : ◌≡◌ {A = ℕ} 0 1 = cc in omega arith)
+worded_said n None fs x p = cc
 worded_said n (Some k) fs x p =
     let q : Ok (n, (k, numbers_in fs)) ≡ Ok x = ok_cond (fields_stand _ fs) (Ok (n, (k, numbers_in fs))) (f.Field n) x p in
     cc
@@ -120,7 +120,7 @@ handed_out l (Err f) m h =
 
 by_length : (b : Bool) (o : Option LineFault) → cond b o (Some (f.Length 0)) ≡ None → o ≡ None
 by_length true o e = e
-by_length false o e = absurd (let z : ◌≡◌ {A = ℕ} 0 1 = cc in omega arith)
+by_length false o e = cc
 
 -- in a text without a fault of this layer all lines stand
 pub all_standing : (n : ℕ) (ls : List Raw) → line_fault n ls ≡ None → standing n ls ≡ map reading ls
@@ -128,7 +128,7 @@ all_standing n [] e = refl
 all_standing n ((true, l) ∷ ls) e =
     let h = or_none (fault_in (line_of n l)) (line_fault (n + 1) ls) e in
     ap (λ o. cond (no_fault o) (reading (true, l) ∷ standing (n + 1) ls) []) h.0 ∙ ap (λ xs. reading (true, l) ∷ xs) (all_standing (n + 1) ls h.1)
-all_standing n ((false, l) ∷ ls) e = absurd (let z : ◌≡◌ {A = ℕ} 0 1 = cc in omega arith)
+all_standing n ((false, l) ∷ ls) e = cc
 
 pub lines_standing : (bs : List ℕ) → text_fault bs ≡ None → standing 1 (lines_in bs) ≡ lines_of bs
 lines_standing bs e = all_standing 1 (lines_in bs) (by_length (leb 1 (length bs) && leb (length bs) 65536) (line_fault 1 (lines_in bs)) e)
