@@ -11,7 +11,7 @@ use Rattle.text.specs.Told.{said}
 use Rattle.text.specs.declared.line.Line.{Line}
 use Rattle.text.specs.declared.lines.Lines.{Lines}
 use Rattle.std.specs.Result.{result_ok}
-use Rattle.text.proofs.Passes.{or_none}
+use Rattle.text.proofs.Passes.{or_none, none_cond}
 
 pub record Cut (k j : ℕ) (bs : List ℕ) : Type 0 where
   pub size : ℕ
@@ -98,10 +98,6 @@ handed_out l (Err f) m h =
     let e = none_stands (passed l + 1) (unread l) f h.0 in
     (e, ap left h.1 ∙ e, ap passed h.1)
 
-by_length : (b : Bool) (o : Option LineFault) → cond b o (Some (f.Length 0)) ≡ None → o ≡ None
-by_length true o e = e
-by_length false o e = cc
-
 -- in a text without a fault of this layer all lines stand
 pub all_standing : (n : ℕ) (ls : List Raw) → line_fault n ls ≡ None → standing n ls ≡ map reading ls
 all_standing n [] e = refl
@@ -111,4 +107,4 @@ all_standing n ((true, l) ∷ ls) e =
 all_standing n ((false, l) ∷ ls) e = cc
 
 pub lines_standing : (bs : List ℕ) → text_fault bs ≡ None → standing 1 (lines_in bs) ≡ lines_of bs
-lines_standing bs e = all_standing 1 (lines_in bs) (by_length (leb 1 (length bs) && leb (length bs) 65536) (line_fault 1 (lines_in bs)) e)
+lines_standing bs e = all_standing 1 (lines_in bs) (none_cond (leb 1 (length bs) && leb (length bs) 65536) (line_fault 1 (lines_in bs)) (f.Length 0) e)

@@ -1,5 +1,5 @@
 -- A pass over the lines, whatever its rules: what a turn leaves to find.
-use Rattle.std.proofs.Common.{◌≡◌, ℕ, ◌+◌, Bool, true, false, not, List, [], ◌∷◌, is_some, IfSome, MatchOption, Some, None, Ok, Err, Option, Bor, sym, refl, ap, ◌∙◌, subst}
+use Rattle.std.proofs.Common.{◌≡◌, ℕ, ◌+◌, Bool, true, false, cond, not, List, [], ◌∷◌, is_some, IfSome, MatchOption, Some, None, Ok, Err, Option, Bor, sym, refl, ap, ◌∙◌, subst}
 use Rattle.std.specs.Option.{option_copied}
 use Rattle.text.specs.declared.line.Line.{Line}
 use Rattle.text.specs.declared.lines.Lines.{Lines}
@@ -12,6 +12,11 @@ use Rattle.text.specs.Reader.{left, passed, ahead, HandsOut}
 pub or_none : {F : Type 0} (o q : Option F) → or_else o q ≡ None → (o ≡ None) × (q ≡ None)
 or_none None q e = (refl, e)
 or_none (Some f) q e = cc
+
+-- where a test that would tell a fault tells none it is passed
+pub none_cond : {F : Type 0} (t : Bool) (o : Option F) (y : F) → cond t o (Some y) ≡ None → o ≡ None
+none_cond true o y e = e
+none_cond false o y e = cc
 
 -- ---- a reader of lines that looks one line ahead: p is what it has looked at, if it has, and l is the reader behind
 

@@ -10,10 +10,10 @@ use Rattle.text.specs.declared.line.Word.TheVariants as w
 use Rattle.text.specs.declared.line.LineFault.{LineFault}
 use Rattle.text.specs.declared.line.LineFault.TheVariants as f
 use Rattle.text.specs.Field.{field_value}
-use Rattle.text.specs.First.{or_else}
 use Rattle.text.specs.Numbers.{fields_stand, numbers, numbers_in}
 use Rattle.text.specs.Lines.{spelled, word_of, Told, worded, right_length, line_of, Raw, longer, lines_in, fault_in, line_fault, text_fault, or_nil, Said, reading, lines_of}
 use Rattle.text.specs.Rendering.{columns, fits, spelling, line_bytes, rendered, each_fits, fitting, all_fit}
+use Rattle.text.proofs.Passes.{or_none, none_cond}
 use Rattle.text.proofs.Columns.{columns_of, columns_back, length_columns, columns_over}
 
 -- words
@@ -27,12 +27,12 @@ abbrev words : List Word
 words = w.Inp ∷ w.Run ∷ w.Fun ∷ w.Lit ∷ w.Add ∷ w.Sub ∷ w.Mul ∷ w.Div ∷ w.Min ∷ w.Max ∷ w.New ∷ w.Put ∷ w.Nil ∷ w.Con ∷ w.Get ∷ w.Cas ∷ []
 
 -- letters that are a word's: they spell it, and no line ends among them
-record Spells (k : Word) (a b c : ℕ) : Type 0 where
+record IsSpelledBy (k : Word) (a b c : ℕ) : Type 0 where
   back : word_of a b c ≡ Some k
   letters : a ∷ b ∷ c ∷ [] ≡ spelling k
   cut : (xs : List ℕ) → lines_in (spelling k ++ xs) ≡ longer a (longer b (longer c (lines_in xs)))
 
-by_computing : (k : Word) → Spells k (get_or (spelling k) 0 0) (get_or (spelling k) 1 0) (get_or (spelling k) 2 0)
+by_computing : (k : Word) → IsSpelledBy k (get_or (spelling k) 0 0) (get_or (spelling k) 1 0) (get_or (spelling k) 2 0)
 by_computing w.Inp = record { back = refl; letters = refl; cut = λ xs. refl }
 by_computing w.Run = record { back = refl; letters = refl; cut = λ xs. refl }
 by_computing w.Fun = record { back = refl; letters = refl; cut = λ xs. refl }
@@ -151,22 +151,14 @@ whole (b ∷ bs) =
     (λ h. rw h.0 (longer_whole b (lines_in bs) ∙ ap (λ x. b ∷ x) (whole bs)))
     (eqb_tells b 10)
 
-neither : {F : Type 0} (o p : Option F) → or_else o p ≡ None → (o ≡ None) × (p ≡ None)
-neither None p e = (refl, e)
-neither (Some x) p e = cc
-
 lines_rendered : (n : ℕ) (ls : List Raw) → line_fault n ls ≡ None → (rendered (map reading ls) ≡ flat_map raw_bytes ls) × (all_fit (map reading ls) ≡ true)
 lines_rendered n [] e = (refl, refl)
 lines_rendered n ((true, l) ∷ ls) e =
-    let b = neither (fault_in (line_of n l)) (line_fault (n + 1) ls) e in
+    let b = or_none (fault_in (line_of n l)) (line_fault (n + 1) ls) e in
     let p = line_in n l b.0 in
     let r = lines_rendered (n + 1) ls b.1 in
     ((λ i. p.0 i ++ r.0 i), ap (λ t. t && all_fit (map reading ls)) p.1 ∙ r.1)
 lines_rendered n ((false, l) ∷ ls) e = cc
-
-none_cond : {F : Type 0} (t : Bool) (o : Option F) (y : F) → cond t o (Some y) ≡ None → o ≡ None
-none_cond true o y e = e
-none_cond false o y e = cc
 
 pub rendering_of : (bs : List ℕ) → text_fault bs ≡ None → (rendered (lines_of bs) ≡ bs) × (all_fit (lines_of bs) ≡ true)
 rendering_of bs e =
