@@ -35,8 +35,8 @@ impl TryFrom<i32> for Kind {
     }
 }
 
-// The fields of a line, six columns each: a part of the text. Clauses read them by `values`, since a model of a type
-// that is Copy would have to give the columns back from the numbers.
+// The fields of a line, six columns each: a part of the text. Clauses read them by `values`, since a type that is Copy
+// and borrows can have no model.
 #[derive(Clone, Copy)]
 pub struct Fields<'a> {
     columns: &'a [u8],
