@@ -1,5 +1,5 @@
 -- The rules of layer 2: where a line stands, how many fields it has, and its ranges and limits.
-use Rattle.std.specs.Prelude.{ℕ, ◌+◌, ◌-◌, Bool, true, false, cond, ◌&&◌, List, length, ℤ, pos, Some, None, Option, nat_lt, slice_index_or}
+use Rattle.std.specs.Prelude.{ℕ, ◌+◌, ◌-◌, Bool, true, cond, ◌&&◌, List, length, ℤ, pos, Some, None, Option, nat_lt, slice_index_or}
 use Rattle.text.specs.declared.line.LineFault.{LineFault}
 use Rattle.text.specs.First.{first}
 use Rattle.text.specs.Lines.{Said, lines_of, text_fault}
@@ -26,10 +26,6 @@ behind_part s p.Run n = record { due = d.Head; functions = s.functions; steps = 
 behind_part s p.Head n = record { due = d.Body; functions = s.functions + 1; steps = s.steps; registers = n - 1 }
 behind_part s p.Command n = record { due = d.Body; functions = s.functions; steps = s.steps + 1; registers = s.registers + 1 }
 behind_part s p.Tail n = record { due = d.Head; functions = s.functions; steps = s.steps + 1; registers = s.registers }
-
-abbrev pub if_so : {X : Type 0} → Bool → X → Option X
-if_so true x = Some x
-if_so false x = None
 
 -- how things stand behind a line
 abbrev pub after : Standing → Said → Standing

@@ -1,11 +1,11 @@
-ghost use Rattle.std.specs.Prelude.{◌≡◌, length, pos, false, slice_index_or};
+ghost use Rattle.std.specs.Prelude.{◌≡◌, length, pos, false, slice_index_or, IsTrue};
 ghost use Rattle.std.specs.Range.{range_inclusive_start, range_inclusive_end, range_inclusive_exhausted};
 ghost use Rattle.text.specs.First.{answer};
 ghost use Rattle.text.specs.Numbers.{whole_of};
 ghost use Rattle.text.specs.Told.{numbered, said};
 ghost use Rattle.text.specs.Values.{values};
-ghost use Rattle.shape.specs.Parts.{part_of, placed, fewest, most, counted, result_kind, all_kinds, head_stands, inputs_fit};
-ghost use Rattle.shape.specs.Shapes.{ranged, if_so, behind_part, after, shape_rules, start};
+ghost use Rattle.shape.specs.Parts.{part_of, placed, fewest, most, result_kind, all_kinds, head_stands, inputs_fit};
+ghost use Rattle.shape.specs.Shapes.{ranged, behind_part, after, shape_rules};
 
 use crate::fault::ShapeFault;
 use std::ops::RangeInclusive;
@@ -140,56 +140,50 @@ fn inputs_in_range(fields: Fields<'_>) -> bool
 }
 
 impl Standing {
-    // How things stand behind a line, unless it passes a range or a limit.
-    fn behind(&self, part: Part, fields: Fields<'_>) -> Option<Standing>
-        ensures { result ≡ if_so (ranged self.now part (values fields.entry)) (behind_part self.now part (length (values fields.entry))) }
+    // Whether a line passes no range and no limit.
+    fn allows(&self, part: Part, fields: Fields<'_>) -> bool
+        ensures { result ≡ ranged self.now part (values fields.entry) }
     {
         match part {
-            Part::Inputs => {
-                if !inputs_in_range(fields) {
-                    return None;
-                }
-                Some(Standing {
-                    due: Due::Run,
-                    ..*self
-                })
-            }
-            Part::Run => Some(Standing {
+            Part::Inputs => inputs_in_range(fields),
+            Part::Run => true,
+            Part::Head => self.functions < FUNCTIONS && is_head(fields),
+            Part::Command => self.steps < STEPS && self.registers < REGISTERS,
+            Part::Tail => self.steps < STEPS,
+        }
+    }
+
+    // How things stand behind a line that passes none.
+    fn behind(&self, part: Part, fields: Fields<'_>) -> Standing
+        requires { IsTrue (ranged self.now part (values fields)) }
+        ensures { result ≡ behind_part self.now part (length (values fields.entry)) }
+    {
+        match part {
+            Part::Inputs => Standing {
+                due: Due::Run,
+                ..*self
+            },
+            Part::Run => Standing {
                 due: Due::Head,
                 ..*self
-            }),
-            Part::Head => {
-                if self.functions >= FUNCTIONS || !is_head(fields) {
-                    return None;
-                }
-                Some(Standing {
-                    due: Due::Body,
-                    functions: self.functions + 1,
-                    registers: fields.count().saturating_sub(1),
-                    ..*self
-                })
-            }
-            Part::Command => {
-                if self.steps >= STEPS || self.registers >= REGISTERS {
-                    return None;
-                }
-                Some(Standing {
-                    due: Due::Body,
-                    steps: self.steps + 1,
-                    registers: self.registers + 1,
-                    ..*self
-                })
-            }
-            Part::Tail => {
-                if self.steps >= STEPS {
-                    return None;
-                }
-                Some(Standing {
-                    due: Due::Head,
-                    steps: self.steps + 1,
-                    ..*self
-                })
-            }
+            },
+            Part::Head => Standing {
+                due: Due::Body,
+                functions: self.functions + 1,
+                registers: fields.count().saturating_sub(1),
+                ..*self
+            },
+            Part::Command => Standing {
+                due: Due::Body,
+                steps: self.steps + 1,
+                registers: self.registers + 1,
+                ..*self
+            },
+            Part::Tail => Standing {
+                due: Due::Head,
+                steps: self.steps + 1,
+                ..*self
+            },
         }
     }
 
@@ -209,7 +203,9 @@ impl Standing {
         if !field_counts(word).contains(&fields.count()) {
             return Err(ShapeFault::Count { line: number });
         }
-        self.behind(part, fields)
-            .ok_or(ShapeFault::Range { line: number })
+        if !self.allows(part, fields) {
+            return Err(ShapeFault::Range { line: number });
+        }
+        Ok(self.behind(part, fields))
     }
 }
