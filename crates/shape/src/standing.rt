@@ -129,13 +129,14 @@ fn is_head(fields: Fields<'_>) -> bool
     is_result(fields.kind(0)) && are_kinds(fields.skip(1))
 }
 
+// Whether these are a count of numbers and a count of lists, together no more than there may be inputs.
 fn inputs_in_range(fields: Fields<'_>) -> bool
     ensures { result ≡ inputs_fit (whole_of (slice_index_or (values fields.entry) 0 (pos 0))) (whole_of (slice_index_or (values fields.entry) 1 (pos 0))) }
 {
-    match (fields.index(0), fields.index(1)) {
-        (Some(numbers), Some(lists)) => { (1..=INPUTS).contains(&numbers.saturating_add(lists)) }
-        _ => false,
-    }
+    let (Some(numbers), Some(lists)) = (fields.index(0), fields.index(1)) else {
+        return false;
+    };
+    (1..=INPUTS).contains(&numbers.saturating_add(lists))
 }
 
 impl Standing {

@@ -1,11 +1,10 @@
 -- How the reader cuts a text into its lines.
-use Rattle.std.proofs.Common.{◌≡◌, ℕ, suc, ◌+◌, ◌<◌, ◌≤◌, Bool, true, false, cond, ◌&&◌, leb, List, [], ◌∷◌, map, length, get_or, take, drop, Some, None, Ok, Err, Option, Result, sym, refl, ap, ◌∙◌, ⊎_elim, arith, length-drop}
-use Rattle.std.proofs.lemmas.Bool.{le-leb}
+use Rattle.std.proofs.Common.{◌≡◌, ℕ, suc, ◌+◌, ◌<◌, Bool, true, false, cond, ◌&&◌, leb, List, [], ◌∷◌, map, length, get_or, take, drop, Some, None, Ok, Err, Option, Result, sym, refl, ap, ◌∙◌, ⊎_elim, arith, length-drop}
 use Rattle.std.proofs.lemmas.Bool.Decides.{eqb_tells}
 use Rattle.text.specs.declared.line.Word.{Word}
 use Rattle.text.specs.declared.line.LineFault.{LineFault}
 use Rattle.text.specs.declared.line.LineFault.TheVariants as f
-use Rattle.text.specs.First.{or_else, no_fault, none_left}
+use Rattle.text.specs.First.{no_fault}
 use Rattle.text.specs.Lines.{Said, Told, line_end, right_length, line_of, Raw, longer, lines_in, line_fault, fault_in, standing, lines_of, reading, worded, word_of, or_nil, text_fault}
 use Rattle.text.specs.Numbers.{fields_stand, numbers_in}
 use Rattle.text.specs.Reader.{Reads, Falls, left, passed, unread, HandsOut, TellsNext}
@@ -85,17 +84,9 @@ pub unended : (n : ℕ) (bs : List ℕ) → 0 < length bs → line_end 0 bs ≡ 
 unended n [] l e = absurd (omega arith)
 unended n (b ∷ bs) l e = record { line = (false, b ∷ bs); behind = []; lines = uncut 0 b bs e; broken = λ last. refl }
 
--- the fault of the first line is the first of all
-pub fallen : (n : ℕ) (bs : List ℕ) (y : LineFault) → Falls n bs y → line_fault n (lines_in bs) ≡ Some y
-fallen n bs y r = ap (line_fault n) r.lines ∙ ap (λ o. or_else o (line_fault (n + 1) r.behind)) (r.broken (none_left r.behind))
-
 -- where the first line falls none is left
 pub none_stands : (n : ℕ) (bs : List ℕ) (y : LineFault) → Falls n bs y → standing n (lines_in bs) ≡ []
 none_stands n bs y r = ap (standing n) r.lines ∙ ap (λ o. cond (no_fault o) (reading r.line ∷ standing (n + 1) r.behind) []) (r.broken false)
-
--- a line that stands has no fault
-pub read_on : (n : ℕ) (bs : List ℕ) (x : Told) (behind : List ℕ) → Reads n bs x behind → line_fault n (lines_in bs) ≡ line_fault (n + 1) (lines_in behind)
-read_on n bs x behind r = ap (line_fault n) r.lines ∙ ap (λ t. or_else (fault_in t) (line_fault (n + 1) (lines_in behind))) r.stands
 
 ok_cond : {T E : Type 0} (b : Bool) (x : Result T E) (e : E) (y : T) → cond b x (Err e) ≡ Ok y → x ≡ Ok y
 ok_cond true x e y p = p
@@ -127,17 +118,6 @@ handed_out l (Err f) m h =
     let e = none_stands (passed l + 1) (unread l) f h.0 in
     (e, ap left h.1 ∙ e, ap passed h.1)
 
--- where a line is told the fault is that of the lines behind it
-pub told_on : (l : Lines) (r : Result Line LineFault) (m : Lines) (x : Line) → TellsNext l (Some r) m → r ≡ Ok x → (line_fault (passed m + 1) (lines_in (unread m)) ≡ line_fault (passed l + 1) (lines_in (unread l))) × (length (unread m) < length (unread l))
-told_on l (Ok y) m x h e =
-    (ap (λ n. line_fault (n + 1) (lines_in (unread m))) h.1 ∙ sym (read_on (passed l + 1) (unread l) _ _ h.0), h.0.shorter)
-told_on l (Err f) m x h e = absurd (let z : ◌≡◌ {A = ℕ} 0 1 = cc in omega arith)
-
--- where a fault is told it is the fault of the lines that are left
-pub told_fault : (l : Lines) (r : Result Line LineFault) (m : Lines) (f : LineFault) → TellsNext l (Some r) m → r ≡ Err f → line_fault (passed l + 1) (lines_in (unread l)) ≡ Some f
-told_fault l (Ok y) m f h e = absurd (let z : ◌≡◌ {A = ℕ} 0 1 = cc in omega arith)
-told_fault l (Err g) m f h e = let same : g ≡ f = cc in fallen (passed l + 1) (unread l) g h.0 ∙ ap Some same
-
 by_length : (b : Bool) (o : Option LineFault) → cond b o (Some (f.Length 0)) ≡ None → o ≡ None
 by_length true o e = e
 by_length false o e = absurd (let z : ◌≡◌ {A = ℕ} 0 1 = cc in omega arith)
@@ -152,6 +132,3 @@ all_standing n ((false, l) ∷ ls) e = absurd (let z : ◌≡◌ {A = ℕ} 0 1 =
 
 pub lines_standing : (bs : List ℕ) → text_fault bs ≡ None → standing 1 (lines_in bs) ≡ lines_of bs
 lines_standing bs e = all_standing 1 (lines_in bs) (by_length (leb 1 (length bs) && leb (length bs) 65536) (line_fault 1 (lines_in bs)) e)
-
-pub in_length : (bs : List ℕ) → 1 ≤ length bs → length bs ≤ 65536 → text_fault bs ≡ line_fault 1 (lines_in bs)
-in_length bs a b = ap (λ t. cond (t && leb (length bs) 65536) (line_fault 1 (lines_in bs)) (Some (f.Length 0))) (le-leb 1 (length bs) a) ∙ ap (λ t. cond t (line_fault 1 (lines_in bs)) (Some (f.Length 0))) (le-leb (length bs) 65536 b)

@@ -1,6 +1,4 @@
-mod FieldRule
 pub mod Numbers
-mod LineForms
 mod Columns
 pub mod Rendered
 pub mod Passes

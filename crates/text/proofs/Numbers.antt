@@ -31,9 +31,6 @@ numbers_more bs l =
     let e : length bs / 6 ≡ suc (length (drop 6 bs) / 6) = omega (arith, length-drop 6 bs) in
     ap (λ k. numbers k bs) e
 
-pub numbers_none : (bs : List ℕ) → length bs < 6 → numbers_in bs ≡ []
-numbers_none bs l = let e : length bs / 6 ≡ 0 = omega arith in ap (λ k. numbers k bs) e
-
 pub numbers_drop : (k : ℕ) (bs : List ℕ) → 6 * k ≤ length bs → numbers_in (drop (6 * k) bs) ≡ drop k (numbers_in bs)
 numbers_drop zero bs l = refl
 numbers_drop (suc k) bs l =

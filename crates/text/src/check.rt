@@ -9,7 +9,7 @@ use crate::lines::Lines;
 // The most bytes of a text.
 const LONGEST: usize = 65536;
 
-// The first fault of layer 1.
+// The first fault of layer 1. The laws of texts stand beside its answer in check_lines, once and not at each return.
 fn check_each(text: &[u8]) -> Result<(), LineFault>
     ensures { result ≡ answer tt (text_fault text.now) }
 {

@@ -1,5 +1,5 @@
-ghost use Rattle.std.specs.Prelude.{◌≡◌, ◌/◌, ◌%◌, ◌<◌, ◌≤◌, [], length, drop, pos, IfSome, slice_index_or};
-ghost use Rattle.text.specs.Field.{digits_on, natural_of, unspaced, field_value, as_positive, as_negative};
+ghost use Rattle.std.specs.Prelude.{◌≡◌, ◌/◌, ◌<◌, ◌≤◌, [], length, drop, pos, IfSome, slice_index_or};
+ghost use Rattle.text.specs.Field.{digits_on, natural_of, unspaced, field_value};
 ghost use Rattle.text.specs.Numbers.{fields_stand, whole_of, kind_of};
 ghost use Rattle.text.specs.Values.{values, numbers_left};
 

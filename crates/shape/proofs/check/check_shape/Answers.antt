@@ -4,7 +4,7 @@ use Rattle.text.specs.First.{first, answer}
 use Rattle.text.specs.Lines.{lines_of, text_fault}
 use Rattle.text.specs.Told.{numbered, said}
 use Rattle.text.proofs.Cuts.{lines_standing}
-use Rattle.text.proofs.Passes.{awaited_number, none_taken, looked, latest_is, last_is, pass_on, pass_stop, answer_ok, answer_err}
+use Rattle.text.proofs.Passes.{looked, latest_is, last_is, pass_on, pass_stop, answer_ok, answer_err}
 use Rattle.shape.specs.Shapes.{start, after, shape_rules, shape_fault_of, over_lines}
 use Rattle.shape.proofs.check.check_shape.Goals as goal
 
@@ -36,14 +36,6 @@ loop-line-preserved c =
       faults = pass_on after shape_rules s r.peeked r.iter x m.iter c.loop-line.invariant.latest st.1 c.is_none.result e c.in_ok-standing.standing v.peeked _ v.iter h looks.2 a.0 a.1 ∙ c.loop-line.invariant.faults;
       latest = latest_is m.iter _ v.iter v.peeked h looks.2;
     }
-
-pub returns : goal.returns
-returns c =
-    let bs = c.args.text.now in
-    let r = c.loop-line.lines in
-    let a = answer_ok tt c.in_ok-check_lines.field-0 (text_fault bs) c.in_ok-check_lines.ensures.value in
-    let n = none_taken r.peeked r.iter c.next.new.self.iter c.in_default.ensures.steps.1 in
-    ap (answer tt) (sym (ap (λ o. over_lines o (shape_fault_of (lines_of bs))) a.0 ∙ sym c.loop-line.invariant.faults ∙ ap (first after shape_rules c.loop-line.standing (awaited_number r.peeked r.iter)) n))
 
 pub returns-in_err-standing : goal.returns-in_err-standing
 returns-in_err-standing c =
