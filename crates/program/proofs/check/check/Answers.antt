@@ -1,5 +1,4 @@
 use Rattle.std.proofs.Common.{ℕ, List, Err, refl}
-use Rattle.std.proofs.lemmas.Result.{err_from_is_err_and}
 use Rattle.kinds.specs.declared.fault.Refusal.{Refusal}
 use Rattle.kinds.specs.declared.fault.Refusal.TheVariants.{Fault, Memory}
 use Rattle.kinds.specs.Laws.{Judged}
