@@ -1,6 +1,6 @@
-use Rattle.std.proofs.Common.{[], ◌++◌, vec_items, sym, ap, ◌∙◌, subst}
+use Rattle.std.proofs.Common.{[], vec_items, sym, subst}
 use Rattle.std.proofs.lemmas.Bool.{eqb-true}
-use Rattle.std.proofs.lemmas.List.{append-nil, append_assoc, nil_from_length}
+use Rattle.std.proofs.lemmas.List.{append-nil, nil_from_length}
 use Rattle.journal.specs.Answers.{Answered, ends}
 use Rattle.journal.proofs.answer.answer.Goals as goal
 

@@ -1,9 +1,6 @@
-use Rattle.std.proofs.Common.{length, sym, ap, ◌∙◌, arith, length-append}
-use Rattle.std.proofs.lemmas.List.{nil_from_length}
 use Rattle.std.proofs.lemmas.Slice.Eq.{slice_eq-Decides}
-use Rattle.std.proofs.lemmas.Bool.{eqb-true}
 use Rattle.std.proofs.lemmas.Bool.Decides.{Decides-eqb}
-use Rattle.journal.proofs.Cutting.{past_none, past_line, text_ends, all_text, ends_line}
+use Rattle.journal.proofs.Cutting.{past_line, ends_line}
 use Rattle.journal.proofs.cut.cut_text.Goals as goal
 
 pub loop-rest-preserved : goal.loop-rest-preserved
