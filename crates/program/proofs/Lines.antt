@@ -1,5 +1,5 @@
 -- What is read line by line is what the lines say.
-use Rattle.std.proofs.Common.{◌≡◌, ℕ, Bool, true, false, List, [], ◌∷◌, get_or, ℤ, pos, sym, refl, ap, ◌∙◌, subst}
+use Rattle.std.proofs.Common.{◌≡◌, ℕ, Bool, true, arith, false, List, [], ◌∷◌, get_or, ℤ, pos, sym, refl, ap, ◌∙◌, subst}
 use Rattle.std.specs.List.{flat_map}
 use Rattle.text.specs.declared.line.Word.{Word}
 use Rattle.text.specs.declared.line.Word.TheVariants as w
@@ -13,58 +13,11 @@ use Rattle.program.specs.Programs.{function_lines, lines_with, wholes}
 use Rattle.program.specs.Formed.{Held, due_after, Formed, Gives, entry_of, entries}
 use Rattle.program.proofs.Entries.{two_back}
 
--- the parts of one word
-abbrev single : Part → Bool
-single p.Inputs = true
-single p.Run = true
-single p.Head = true
-single p.Command = false
-single p.Tail = false
-
-abbrev sole : Part → Word
-sole p.Inputs = w.Inp
-sole p.Run = w.Run
-sole p.Head = w.Fun
-sole p.Command = w.Lit
-sole p.Tail = w.Nil
-
-sole_is : (k : Word) → single (part_of k) ≡ true → k ≡ sole (part_of k)
-sole_is w.Inp e = refl
-sole_is w.Run e = refl
-sole_is w.Fun e = refl
-sole_is w.Lit e = absurd (cc)
-sole_is w.Add e = absurd (cc)
-sole_is w.Sub e = absurd (cc)
-sole_is w.Mul e = absurd (cc)
-sole_is w.Div e = absurd (cc)
-sole_is w.Min e = absurd (cc)
-sole_is w.Max e = absurd (cc)
-sole_is w.New e = absurd (cc)
-sole_is w.Put e = absurd (cc)
-sole_is w.Nil e = absurd (cc)
-sole_is w.Con e = absurd (cc)
-sole_is w.Get e = absurd (cc)
-sole_is w.Cas e = absurd (cc)
-
-inputs_part : (x : Part) → fits d.Inputs x ≡ true → x ≡ p.Inputs
-inputs_part p.Inputs e = refl
-inputs_part p.Run e = absurd (cc)
-inputs_part p.Head e = absurd (cc)
-inputs_part p.Command e = absurd (cc)
-inputs_part p.Tail e = absurd (cc)
-
-run_part : (x : Part) → fits d.Run x ≡ true → x ≡ p.Run
-run_part p.Inputs e = absurd (cc)
-run_part p.Run e = refl
-run_part p.Head e = absurd (cc)
-run_part p.Command e = absurd (cc)
-run_part p.Tail e = absurd (cc)
-
 pub inputs_due : (k : Word) → fits d.Inputs (part_of k) ≡ true → k ≡ w.Inp
-inputs_due k e = let q = inputs_part (part_of k) e in sole_is k (ap single q) ∙ ap sole q
+inputs_due k e = grind arith
 
 pub run_due : (k : Word) → fits d.Run (part_of k) ≡ true → k ≡ w.Run
-run_due k e = let q = run_part (part_of k) e in sole_is k (ap single q) ∙ ap sole q
+run_due k e = grind arith
 
 pub gives : (l m : List Said) (k : Word) (zs : List ℤ) (x : Said) → l ≡ x ∷ m → (k, zs) ≡ x → Gives l zs m
 gives l m k zs x e q = subst (λ ls. Gives ls zs m) (sym (e ∙ ap (λ y. y ∷ m) (sym q))) (refl, refl)
