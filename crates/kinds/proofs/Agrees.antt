@@ -4,7 +4,6 @@ use Rattle.std.proofs.lemmas.Bool.{cases_lt, and_left, and_right}
 use Rattle.std.proofs.lemmas.List.{at_drop_more, at_drop_all, get_or_past}
 use Rattle.std.specs.List.{list_all, enumerate_from, zip}
 use Rattle.text.specs.declared.fields.Kind.{Kind}
-use Rattle.text.specs.declared.fields.Kind.TheVariants as k
 use Rattle.text.specs.declared.line.Word.{Word}
 use Rattle.text.specs.Numbers.{whole_of, kind_of}
 use Rattle.kinds.specs.Named.{names, there, all_there}
@@ -28,9 +27,7 @@ takes_uneven ks (z ∷ zs) [] h = refl
 takes_uneven ks (z ∷ zs) (p ∷ ps) h = and_right _ _ (takes_uneven ks zs ps (λ e. h (ap suc e)))
 
 no_kind : (k : Kind) → same_kind (Some k) None ≡ false
-no_kind k.Number = refl
-no_kind k.ModNumber = refl
-no_kind k.ModList = refl
+no_kind k = grind arith
 
 -- kinds, with their indices from j on, against the parameters from j on
 pub starts_over : (lead : List Kind) (j : ℕ) (zs : List ℤ) → list_all (λ p. same_kind (Some p.1) (kind_of (get_or zs p.0 (pos 0)))) (enumerate_from j lead) ≡ starts lead (drop j zs)

@@ -1,11 +1,9 @@
 -- What is read line by line is what the lines say.
-use Rattle.std.proofs.Common.{◌≡◌, ℕ, Bool, true, arith, false, List, [], ◌∷◌, get_or, ℤ, pos, sym, refl, ap, ◌∙◌, subst}
+use Rattle.std.proofs.Common.{◌≡◌, ℕ, true, arith, List, [], ◌∷◌, get_or, ℤ, pos, sym, refl, ap, ◌∙◌, subst}
 use Rattle.std.specs.List.{flat_map}
 use Rattle.text.specs.declared.line.Word.{Word}
 use Rattle.text.specs.declared.line.Word.TheVariants as w
 use Rattle.text.specs.Lines.{Said}
-use Rattle.shape.specs.declared.standing.Part.{Part}
-use Rattle.shape.specs.declared.standing.Part.TheVariants as p
 use Rattle.shape.specs.declared.standing.Due.TheVariants as d
 use Rattle.shape.specs.Parts.{part_of, fits}
 use Rattle.program.specs.declared.function.Function.{Function}
