@@ -16,7 +16,7 @@ use Rattle.text.specs.Rendering.{columns, fits}
 
 some_cond : {A : Type 0} (t : Bool) (o : Option A) (x : A) → cond t o None ≡ Some x → (t ≡ true) × (o ≡ Some x)
 some_cond true o x e = (refl, e)
-some_cond false o x e = absurd (let z : ◌≡◌ {A = ℕ} 0 1 = cc in omega arith)
+some_cond false o x e = cc
 
 -- the digits, and what they are worth
 
@@ -52,11 +52,11 @@ plain_in ds n e some short lead =
     ap decimal (sym r.1) ∙ decimal-digits_value own ds r.0 some lead (omega (arith, digits_value_short own ds 6 r.0 short))
 
 natural_in : (ds : List ℕ) (n : ℕ) → natural_of ds ≡ Some n → length ds ≤ 6 → decimal n ≡ ds
-natural_in [] n e l = absurd (let z : ◌≡◌ {A = ℕ} 0 1 = cc in omega arith)
+natural_in [] n e l = cc
 natural_in (b ∷ []) n e l = plain_in (b ∷ []) n e (omega arith) l (λ _. refl)
 natural_in (b ∷ d ∷ ds) n e l =
     ⊎_elim
-    (λ h. absurd (let x : natural_of (b ∷ d ∷ ds) ≡ None = rw h.0 in let z : ◌≡◌ {A = ℕ} 0 1 = cc in omega arith))
+    (λ h. let x : natural_of (b ∷ d ∷ ds) ≡ None = rw h.0 in cc)
     (λ h. plain_in (b ∷ d ∷ ds) n (rw h.0 at e) (omega arith) l (λ q. absurd (h.1 q)))
     (eqb_tells b 48)
 
@@ -72,16 +72,16 @@ natural_back (suc n) l = no_zero (decimal (suc n)) (first_decimal (suc n) (omega
 -- with its sign
 
 plus_in : (ds : List ℕ) (o : Option ℕ) (z : ℤ) → natural_of ds ≡ o → as_positive o ≡ Some z → length ds ≤ 6 → signed_decimal z ≡ ds
-plus_in ds None z q e l = absurd (let z : ◌≡◌ {A = ℕ} 0 1 = cc in omega arith)
+plus_in ds None z q e l = cc
 plus_in ds (Some n) z q e l = let s : z ≡ pos n = cc in ap signed_decimal s ∙ natural_in ds n q l
 
 minus_in : (ds : List ℕ) (o : Option ℕ) (z : ℤ) → natural_of ds ≡ o → as_negative o ≡ Some z → length ds ≤ 6 → signed_decimal z ≡ 45 ∷ ds
-minus_in ds None z q e l = absurd (let z : ◌≡◌ {A = ℕ} 0 1 = cc in omega arith)
-minus_in ds (Some zero) z q e l = absurd (let z : ◌≡◌ {A = ℕ} 0 1 = cc in omega arith)
+minus_in ds None z q e l = cc
+minus_in ds (Some zero) z q e l = cc
 minus_in ds (Some (suc n)) z q e l = let s : z ≡ negsuc n = cc in ap signed_decimal s ∙ ap (λ x. 45 ∷ x) (natural_in ds (suc n) q l)
 
 signed_in : (bs : List ℕ) (z : ℤ) → signed_of bs ≡ Some z → length bs ≤ 6 → signed_decimal z ≡ bs
-signed_in [] z e l = absurd (let z : ◌≡◌ {A = ℕ} 0 1 = cc in omega arith)
+signed_in [] z e l = cc
 signed_in (b ∷ bs) z e l =
     ⊎_elim
     (λ h. minus_in bs (natural_of bs) z refl (rw h.0 at e) (omega arith) ∙ ap (λ x. x ∷ bs) (sym h.1))

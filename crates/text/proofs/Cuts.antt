@@ -1,18 +1,17 @@
 -- How the reader cuts a text into its lines.
 use Rattle.std.proofs.Common.{◌≡◌, ℕ, suc, ◌+◌, ◌<◌, Bool, true, false, cond, ◌&&◌, leb, List, [], ◌∷◌, map, length, get_or, take, drop, Some, None, Ok, Err, Option, Result, sym, refl, ap, ◌∙◌, ⊎_elim, arith, length-drop}
-use Rattle.std.proofs.lemmas.Bool.Decides.{eqb_tells}
+use Rattle.std.proofs.lemmas.Bool.Decides.{eqb_tells, nat_tests}
 use Rattle.text.specs.declared.line.Word.{Word}
 use Rattle.text.specs.declared.line.LineFault.{LineFault}
 use Rattle.text.specs.declared.line.LineFault.TheVariants as f
-use Rattle.text.specs.First.{no_fault}
-use Rattle.text.specs.Lines.{Said, Told, line_end, right_length, line_of, Raw, longer, lines_in, line_fault, fault_in, standing, lines_of, reading, worded, word_of, or_nil, text_fault}
+use Rattle.text.specs.Lines.{Said, Told, line_end, right_length, line_of, Raw, lines_in, line_fault, fault_in, standing, lines_of, reading, worded, word_of, or_nil, text_fault}
 use Rattle.text.specs.Numbers.{fields_stand, numbers_in}
 use Rattle.text.specs.Reader.{Reads, Falls, left, passed, unread, HandsOut, TellsNext}
 use Rattle.text.specs.Told.{said}
 use Rattle.text.specs.declared.line.Line.{Line}
 use Rattle.text.specs.declared.lines.Lines.{Lines}
 use Rattle.std.specs.Result.{result_ok}
-use Rattle.text.proofs.Passes.{or_none}
+use Rattle.text.proofs.Passes.{or_none, none_cond}
 
 pub record Cut (k j : ℕ) (bs : List ℕ) : Type 0 where
   pub size : ℕ
@@ -21,38 +20,19 @@ pub record Cut (k j : ℕ) (bs : List ℕ) : Type 0 where
   pub cut : lines_in bs ≡ (true, take size bs) ∷ lines_in (drop (suc size) bs)
 
 pub cut_at : (k j : ℕ) (bs : List ℕ) → line_end k bs ≡ Some j → Cut k j bs
-cut_at k j [] e = absurd (let z : ◌≡◌ {A = ℕ} 0 1 = cc in omega arith)
+cut_at k j [] e = cc
 cut_at k j (b ∷ bs) e =
     ⊎_elim
-    (λ h. let x : line_end k (b ∷ bs) ≡ Some k = ap (λ t. cond t (Some k) (line_end (k + 1) bs)) h.0 in
-    record {
-      size = 0;
-      at = let y : j ≡ k = cc in omega arith;
-      inside = omega arith;
-      cut = ap (λ t. cond t ((true, []) ∷ lines_in bs) (longer b (lines_in bs))) h.0;
-    })
-    (λ h. let x : line_end k (b ∷ bs) ≡ line_end (k + 1) bs = ap (λ t. cond t (Some k) (line_end (k + 1) bs)) h.0 in
-    let r : Cut (k + 1) j bs = cut_at (k + 1) j bs (sym x ∙ e) in
-    record {
-      size = suc r.size;
-      at = omega (arith, r.at);
-      inside = omega (arith, r.inside);
-      cut = ap (λ t. cond t ((true, []) ∷ lines_in bs) (longer b (lines_in bs))) h.0 ∙ ap (longer b) r.cut;
-    })
+    (λ h. let x : Some k ≡ Some j = rw h.0 at e in
+    let y : k ≡ j = cc in
+    record { size = 0; at = omega arith; inside = omega arith; cut = rw h.0 })
+    (λ h. let r : Cut (k + 1) j bs = cut_at (k + 1) j bs (rw h.0 at e) in
+    record { size = suc r.size; at = omega (arith, r.at); inside = omega (arith, r.inside); cut = rw (h.0, r.cut) })
     (eqb_tells b 10)
 
 pub uncut : (k b : ℕ) (bs : List ℕ) → line_end k (b ∷ bs) ≡ None → lines_in (b ∷ bs) ≡ (false, b ∷ bs) ∷ []
-uncut k b [] e =
-    ⊎_elim
-    (λ h. absurd (let x : line_end k (b ∷ []) ≡ Some k = ap (λ t. cond t (Some k) (line_end (k + 1) [])) h.0 in let z : ◌≡◌ {A = ℕ} 0 1 = cc in omega arith))
-    (λ h. ap (λ t. cond t ((true, []) ∷ lines_in []) (longer b (lines_in []))) h.0)
-    (eqb_tells b 10)
-uncut k b (c ∷ bs) e =
-    ⊎_elim
-    (λ h. absurd (let x : line_end k (b ∷ c ∷ bs) ≡ Some k = ap (λ t. cond t (Some k) (line_end (k + 1) (c ∷ bs))) h.0 in let z : ◌≡◌ {A = ℕ} 0 1 = cc in omega arith))
-    (λ h. let x : line_end k (b ∷ c ∷ bs) ≡ line_end (k + 1) (c ∷ bs) = ap (λ t. cond t (Some k) (line_end (k + 1) (c ∷ bs))) h.0 in
-    ap (λ t. cond t ((true, []) ∷ lines_in (c ∷ bs)) (longer b (lines_in (c ∷ bs)))) h.0 ∙ ap (longer b) (uncut (k + 1) c bs (sym x ∙ e)))
-    (eqb_tells b 10)
+uncut k b [] e = grind (arith, nat_tests)
+uncut k b (c ∷ bs) e = grind (arith, nat_tests, uncut (k + 1) c bs)
 
 -- a line that is cut off and told
 pub reads : (n j : ℕ) (bs : List ℕ) (x : Told) → line_end 0 bs ≡ Some j → line_of n (take j bs) ≡ Ok x → Reads n bs x (drop (j + 1) bs)
@@ -86,14 +66,14 @@ unended n (b ∷ bs) l e = record { line = (false, b ∷ bs); behind = []; lines
 
 -- where the first line falls none is left
 pub none_stands : (n : ℕ) (bs : List ℕ) (y : LineFault) → Falls n bs y → standing n (lines_in bs) ≡ []
-none_stands n bs y r = ap (standing n) r.lines ∙ ap (λ o. cond (no_fault o) (reading r.line ∷ standing (n + 1) r.behind) []) (r.broken false)
+none_stands n bs y r = rw (r.lines, r.broken false)
 
 ok_cond : {T E : Type 0} (b : Bool) (x : Result T E) (e : E) (y : T) → cond b x (Err e) ≡ Ok y → x ≡ Ok y
 ok_cond true x e y p = p
-ok_cond false x e y p = absurd (let z : ◌≡◌ {A = ℕ} 0 1 = cc in omega arith)
+ok_cond false x e y p = cc
 
 worded_said : (n : ℕ) (o : Option Word) (fs : List ℕ) (x : Told) → worded n o fs ≡ Ok x → x ≡ (n, (or_nil o, numbers_in fs))
-worded_said n None fs x p = absurd (let z : ◌≡◌ {A = ℕ} 0 1 = cc in omega arith)
+worded_said n None fs x p = cc
 worded_said n (Some k) fs x p =
     let q : Ok (n, (k, numbers_in fs)) ≡ Ok x = ok_cond (fields_stand _ fs) (Ok (n, (k, numbers_in fs))) (f.Field n) x p in
     cc
@@ -107,7 +87,7 @@ line_said n l x p =
 pub lines_left : (n m : ℕ) (bs : List ℕ) (x : Said) (behind : List ℕ) → Reads n bs (m, x) behind → (standing n (lines_in bs) ≡ x ∷ standing (n + 1) (lines_in behind)) × (m ≡ n)
 lines_left n m bs x behind r =
     let e = line_said n r.line (m, x) r.stands in
-    (ap (standing n) r.lines ∙ ap (λ t. cond (no_fault (fault_in t)) (reading (true, r.line) ∷ standing (n + 1) (lines_in behind)) []) r.stands ∙ ap (λ (y : Told). y.1 ∷ standing (n + 1) (lines_in behind)) (sym e), ap (λ (y : Told). y.0) e)
+    (rw (r.lines, r.stands) (ap (λ (y : Told). y.1 ∷ standing (n + 1) (lines_in behind)) (sym e)), ap (λ (y : Told). y.0) e)
 
 -- where a line is told it is handed out
 pub handed_out : (l : Lines) (r : Result Line LineFault) (m : Lines) → TellsNext l (Some r) m → HandsOut l (result_ok r) m
@@ -118,17 +98,13 @@ handed_out l (Err f) m h =
     let e = none_stands (passed l + 1) (unread l) f h.0 in
     (e, ap left h.1 ∙ e, ap passed h.1)
 
-by_length : (b : Bool) (o : Option LineFault) → cond b o (Some (f.Length 0)) ≡ None → o ≡ None
-by_length true o e = e
-by_length false o e = absurd (let z : ◌≡◌ {A = ℕ} 0 1 = cc in omega arith)
-
 -- in a text without a fault of this layer all lines stand
 pub all_standing : (n : ℕ) (ls : List Raw) → line_fault n ls ≡ None → standing n ls ≡ map reading ls
 all_standing n [] e = refl
 all_standing n ((true, l) ∷ ls) e =
     let h = or_none (fault_in (line_of n l)) (line_fault (n + 1) ls) e in
-    ap (λ o. cond (no_fault o) (reading (true, l) ∷ standing (n + 1) ls) []) h.0 ∙ ap (λ xs. reading (true, l) ∷ xs) (all_standing (n + 1) ls h.1)
-all_standing n ((false, l) ∷ ls) e = absurd (let z : ◌≡◌ {A = ℕ} 0 1 = cc in omega arith)
+    rw (h.0, all_standing (n + 1) ls h.1)
+all_standing n ((false, l) ∷ ls) e = cc
 
 pub lines_standing : (bs : List ℕ) → text_fault bs ≡ None → standing 1 (lines_in bs) ≡ lines_of bs
-lines_standing bs e = all_standing 1 (lines_in bs) (by_length (leb 1 (length bs) && leb (length bs) 65536) (line_fault 1 (lines_in bs)) e)
+lines_standing bs e = all_standing 1 (lines_in bs) (none_cond (leb 1 (length bs) && leb (length bs) 65536) (line_fault 1 (lines_in bs)) (f.Length 0) e)

@@ -1,5 +1,5 @@
 -- A pass over the lines, whatever its rules: what a turn leaves to find.
-use Rattle.std.proofs.Common.{◌≡◌, ℕ, ◌+◌, Bool, true, false, not, List, [], ◌∷◌, is_some, IfSome, MatchOption, Some, None, Ok, Err, Option, Bor, sym, refl, ap, ◌∙◌, subst, arith}
+use Rattle.std.proofs.Common.{◌≡◌, ℕ, ◌+◌, Bool, true, false, cond, not, List, [], ◌∷◌, is_some, IfSome, MatchOption, Some, None, Ok, Err, Option, Bor, sym, refl, ap, ◌∙◌, subst}
 use Rattle.std.specs.Option.{option_copied}
 use Rattle.text.specs.declared.line.Line.{Line}
 use Rattle.text.specs.declared.lines.Lines.{Lines}
@@ -11,7 +11,12 @@ use Rattle.text.specs.Reader.{left, passed, ahead, HandsOut}
 -- where no fault is told, neither the first line nor those behind it have one
 pub or_none : {F : Type 0} (o q : Option F) → or_else o q ≡ None → (o ≡ None) × (q ≡ None)
 or_none None q e = (refl, e)
-or_none (Some f) q e = absurd (let z : ◌≡◌ {A = ℕ} 0 1 = cc in omega arith)
+or_none (Some f) q e = cc
+
+-- where a test that would tell a fault tells none it is passed
+pub none_cond : {F : Type 0} (t : Bool) (o : Option F) (y : F) → cond t o (Some y) ≡ None → o ≡ None
+none_cond true o y e = e
+none_cond false o y e = cc
 
 -- ---- a reader of lines that looks one line ahead: p is what it has looked at, if it has, and l is the reader behind
 
@@ -32,7 +37,7 @@ IsLatest p l = IfSome p (λ o. IfSome o (λ x. numbered x ≡ passed l))
 -- its next line is the first of those that it has left
 pub taken : (p : Option (Option Line)) (l : Lines) (x : Line) (m : Lines) → IsLatest p l → MatchOption p (HandsOut l (Some x) m) (λ o. (Some x ≡ o) × (m ≡ l)) → (awaited p l ≡ said x ∷ left m) × (awaited_number p l ≡ passed m) × (numbered x ≡ passed m)
 taken None l x m h st = (st.0, sym st.2, st.1 ∙ sym st.2)
-taken (Some None) l x m h st = absurd (let e = st.0 in let z : ◌≡◌ {A = ℕ} 0 1 = cc in omega arith)
+taken (Some None) l x m h st = let e = st.0 in cc
 taken (Some (Some y)) l x m h st = (cc, cc, cc)
 
 -- it has no next line where none is left
@@ -44,7 +49,7 @@ none_taken (Some (Some y)) l m st = let e = st.0 in cc
 -- it looks at its next line, where it had not looked yet
 pub looked : (p : Option (Option Line)) (l m : Lines) (q : Option (Option Line)) (o : Option Line) → p ≡ None → ((r : Option Line) × MatchOption p (HandsOut l r m) (λ o. (r ≡ o) × (m ≡ l)) × (q ≡ Some r)) → q ≡ Some o → HandsOut l o m
 looked None l m q o n h e = let i : h.0 ≡ o = cc (h.2, e) in subst (λ (r : Option Line). HandsOut l r m) i h.1
-looked (Some r) l m q o n h e = absurd (let z : ◌≡◌ {A = ℕ} 0 1 = cc in omega arith)
+looked (Some r) l m q o n h e = cc
 
 -- a line that was looked at is the latest
 pub latest_is : (l : Lines) (o : Option Line) (m : Lines) (q : Option (Option Line)) → HandsOut l o m → q ≡ Some o → IsLatest q m
@@ -54,8 +59,8 @@ latest_is l (Some x) m q h e = rw e (h.1 ∙ sym h.2)
 -- whether a line was the last, as `is_none` says of the next one
 pub last_is : (l : Lines) (o : Option (Bor Line)) (m : Lines) (b : Bool) → HandsOut l (option_copied o) m → is_some o ≡ not b → b ≡ none_left (left l)
 last_is l None m true h e = ap none_left (sym h.0)
-last_is l None m false h e = absurd (let z : ◌≡◌ {A = ℕ} 0 1 = cc in omega arith)
-last_is l (Some x) m true h e = absurd (let z : ◌≡◌ {A = ℕ} 0 1 = cc in omega arith)
+last_is l None m false h e = cc
+last_is l (Some x) m true h e = cc
 last_is l (Some x) m false h e = ap none_left (sym h.0)
 
 module _ {S F : Type 0} (after : S → Said → S) (rules : S → ℕ → Said → Bool → Option F) where
@@ -88,8 +93,8 @@ module _ {S F : Type 0} (after : S → Said → S) (rules : S → ℕ → Said �
 
 pub answer_ok : {T F : Type 0} (t u : T) (o : Option F) → Ok u ≡ answer t o → (o ≡ None) × (u ≡ t)
 answer_ok t u None p = (refl, cc)
-answer_ok t u (Some x) p = absurd (let z : ◌≡◌ {A = ℕ} 0 1 = cc in omega arith)
+answer_ok t u (Some x) p = cc
 
 pub answer_err : {T F : Type 0} (t : T) (y : F) (o : Option F) → Err y ≡ answer t o → o ≡ Some y
-answer_err t y None p = absurd (let z : ◌≡◌ {A = ℕ} 0 1 = cc in omega arith)
+answer_err t y None p = cc
 answer_err t y (Some x) p = let e : x ≡ y = cc in ap Some e

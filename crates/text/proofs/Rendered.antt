@@ -10,10 +10,10 @@ use Rattle.text.specs.declared.line.Word.TheVariants as w
 use Rattle.text.specs.declared.line.LineFault.{LineFault}
 use Rattle.text.specs.declared.line.LineFault.TheVariants as f
 use Rattle.text.specs.Field.{field_value}
-use Rattle.text.specs.First.{or_else}
 use Rattle.text.specs.Numbers.{fields_stand, numbers, numbers_in}
 use Rattle.text.specs.Lines.{spelled, word_of, Told, worded, right_length, line_of, Raw, longer, lines_in, fault_in, line_fault, text_fault, or_nil, Said, reading, lines_of}
 use Rattle.text.specs.Rendering.{columns, fits, spelling, line_bytes, rendered, each_fits, fitting, all_fit}
+use Rattle.text.proofs.Passes.{or_none, none_cond}
 use Rattle.text.proofs.Columns.{columns_of, columns_back, length_columns, columns_over}
 
 -- words
@@ -27,12 +27,12 @@ abbrev words : List Word
 words = w.Inp ∷ w.Run ∷ w.Fun ∷ w.Lit ∷ w.Add ∷ w.Sub ∷ w.Mul ∷ w.Div ∷ w.Min ∷ w.Max ∷ w.New ∷ w.Put ∷ w.Nil ∷ w.Con ∷ w.Get ∷ w.Cas ∷ []
 
 -- letters that are a word's: they spell it, and no line ends among them
-record Spells (k : Word) (a b c : ℕ) : Type 0 where
+record IsSpelledBy (k : Word) (a b c : ℕ) : Type 0 where
   back : word_of a b c ≡ Some k
   letters : a ∷ b ∷ c ∷ [] ≡ spelling k
   cut : (xs : List ℕ) → lines_in (spelling k ++ xs) ≡ longer a (longer b (longer c (lines_in xs)))
 
-by_computing : (k : Word) → Spells k (get_or (spelling k) 0 0) (get_or (spelling k) 1 0) (get_or (spelling k) 2 0)
+by_computing : (k : Word) → IsSpelledBy k (get_or (spelling k) 0 0) (get_or (spelling k) 1 0) (get_or (spelling k) 2 0)
 by_computing w.Inp = record { back = refl; letters = refl; cut = λ xs. refl }
 by_computing w.Run = record { back = refl; letters = refl; cut = λ xs. refl }
 by_computing w.Fun = record { back = refl; letters = refl; cut = λ xs. refl }
@@ -60,7 +60,7 @@ same_letters a b c x y z e =
     λ i. eqb-true a x p.0 i ∷ eqb-true b y q.0 i ∷ eqb-true c z q.1 i ∷ []
 
 among_spelled : (ks : List Word) (a b c : ℕ) (k : Word) → among ks a b c ≡ Some k → a ∷ b ∷ c ∷ [] ≡ spelling k
-among_spelled [] a b c k e = absurd (let z : ◌≡◌ {A = ℕ} 0 1 = cc in omega arith)
+among_spelled [] a b c k e = cc
 among_spelled (j ∷ ks) a b c k e =
     ⊎_elim
     (λ t. let r : Some j ≡ Some k = rw t at e in let s : j ≡ k = cc in same_letters a b c _ _ _ t ∙ (by_computing j).letters ∙ ap spelling s)
@@ -73,7 +73,7 @@ word_spelled a b c k e = among_spelled words a b c k e
 -- fields
 
 held : {A : Type 0} (o : Option A) (d : A) → is_some o ≡ true → o ≡ Some (unwrap_or o d)
-held None d e = absurd (let z : ◌≡◌ {A = ℕ} 0 1 = cc in omega arith)
+held None d e = cc
 held (Some x) d e = refl
 
 fields_in : (m : ℕ) (fs : List ℕ) → length fs ≡ 6 * m → fields_stand m fs ≡ true → (flat_map columns (numbers m fs) ≡ fs) × (each_fits (numbers m fs) ≡ true)
@@ -100,19 +100,19 @@ fields_back (z ∷ zs) e =
 
 sound : (t : Bool) (r : Result Told LineFault) (y : LineFault) → fault_in (cond t r (Err y)) ≡ None → (t ≡ true) × (fault_in r ≡ None)
 sound true r y e = (refl, e)
-sound false r y e = absurd (let z : ◌≡◌ {A = ℕ} 0 1 = cc in omega arith)
+sound false r y e = cc
 
 worded_in : (n a b c : ℕ) (o : Option Word) (fs : List ℕ) → word_of a b c ≡ o → length fs % 6 ≡ 0 → fault_in (worded n o fs) ≡ None
     → (line_bytes (or_nil o, numbers_in fs) ≡ a ∷ b ∷ c ∷ (fs ++ 10 ∷ [])) × (each_fits (numbers_in fs) ≡ true)
-worded_in n a b c None fs q l e = absurd (let z : ◌≡◌ {A = ℕ} 0 1 = cc in omega arith)
+worded_in n a b c None fs q l e = cc
 worded_in n a b c (Some k) fs q l e =
     let r = fields_in (length fs / 6) fs (omega arith) (sound (fields_stand (length fs / 6) fs) (Ok (n, (k, numbers_in fs))) (f.Field n) e).0 in
     (λ i. sym (word_spelled a b c k q) i ++ (r.0 i ++ 10 ∷ []), r.1)
 
 line_in : (n : ℕ) (l : List ℕ) → fault_in (line_of n l) ≡ None → (line_bytes (reading (true, l)) ≡ l ++ 10 ∷ []) × (fitting (reading (true, l)) ≡ true)
-line_in n [] e = absurd (let z : ◌≡◌ {A = ℕ} 0 1 = cc in omega arith)
-line_in n (a ∷ []) e = absurd (let z : ◌≡◌ {A = ℕ} 0 1 = cc in omega arith)
-line_in n (a ∷ b ∷ []) e = absurd (let z : ◌≡◌ {A = ℕ} 0 1 = cc in omega arith)
+line_in n [] e = cc
+line_in n (a ∷ []) e = cc
+line_in n (a ∷ b ∷ []) e = cc
 line_in n (a ∷ b ∷ c ∷ fs) e =
     let m : ℕ = length (a ∷ b ∷ c ∷ fs) in
     let p = sound (right_length m) (worded n (word_of a b c) fs) (f.Length n) e in
@@ -151,22 +151,14 @@ whole (b ∷ bs) =
     (λ h. rw h.0 (longer_whole b (lines_in bs) ∙ ap (λ x. b ∷ x) (whole bs)))
     (eqb_tells b 10)
 
-neither : {F : Type 0} (o p : Option F) → or_else o p ≡ None → (o ≡ None) × (p ≡ None)
-neither None p e = (refl, e)
-neither (Some x) p e = absurd (let z : ◌≡◌ {A = ℕ} 0 1 = cc in omega arith)
-
 lines_rendered : (n : ℕ) (ls : List Raw) → line_fault n ls ≡ None → (rendered (map reading ls) ≡ flat_map raw_bytes ls) × (all_fit (map reading ls) ≡ true)
 lines_rendered n [] e = (refl, refl)
 lines_rendered n ((true, l) ∷ ls) e =
-    let b = neither (fault_in (line_of n l)) (line_fault (n + 1) ls) e in
+    let b = or_none (fault_in (line_of n l)) (line_fault (n + 1) ls) e in
     let p = line_in n l b.0 in
     let r = lines_rendered (n + 1) ls b.1 in
     ((λ i. p.0 i ++ r.0 i), ap (λ t. t && all_fit (map reading ls)) p.1 ∙ r.1)
-lines_rendered n ((false, l) ∷ ls) e = absurd (let z : ◌≡◌ {A = ℕ} 0 1 = cc in omega arith)
-
-none_cond : {F : Type 0} (t : Bool) (o : Option F) (y : F) → cond t o (Some y) ≡ None → o ≡ None
-none_cond true o y e = e
-none_cond false o y e = absurd (let z : ◌≡◌ {A = ℕ} 0 1 = cc in omega arith)
+lines_rendered n ((false, l) ∷ ls) e = cc
 
 pub rendering_of : (bs : List ℕ) → text_fault bs ≡ None → (rendered (lines_of bs) ≡ bs) × (all_fit (lines_of bs) ≡ true)
 rendering_of bs e =

@@ -6,7 +6,7 @@ ghost use Rattle.text.specs.Laws.{FieldsAreColumns, ColumnsReadBack, TextsAreRen
 use crate::line::LineFault;
 use crate::lines::Lines;
 
-// The most bytes of a text.
+// The most bytes of a text. The rules tell a wrong length of the text at line 0.
 const LONGEST: usize = 65536;
 
 // The first fault of layer 1. The laws of texts stand beside its answer in check_lines, once and not at each return.

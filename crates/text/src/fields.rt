@@ -35,7 +35,8 @@ impl TryFrom<i32> for Kind {
     }
 }
 
-// The fields of a line, six columns each: a part of the text.
+// The fields of a line, six columns each: a part of the text. Clauses read them by `values`, since a type that is Copy
+// and borrows can have no model.
 #[derive(Clone, Copy)]
 pub struct Fields<'a> {
     columns: &'a [u8],
@@ -71,7 +72,7 @@ impl<'a> Fields<'a> {
         }
     }
 
-    // The number in field j, or 0 where there is no field j.
+    // The number in field j, or 0 where there is no field j: who calls it has counted the fields, and needs no Option.
     pub fn number(self, j: usize) -> i32
         ensures { result ≡ slice_index_or (values self.entry) j (pos 0) }
     {
