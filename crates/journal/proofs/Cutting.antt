@@ -1,7 +1,7 @@
 -- A journal is cut at its bytes 10.
-use Rattle.std.proofs.Common.{◌≡◌, ℕ, zero, suc, ◌+◌, ◌-◌, ◌<◌, ◌≤◌, Bool, true, false, cond, List, [], ◌∷◌, ◌++◌, length, take, drop, Some, None, Decides, codes, sym, refl, ap, ◌∙◌, subst, ⊎_elim, arith, length-append, length-drop, rules}
+use Rattle.std.proofs.Common.{◌≡◌, ℕ, zero, suc, ◌+◌, ◌-◌, ◌<◌, Bool, true, false, cond, List, [], ◌∷◌, ◌++◌, length, take, drop, Some, None, Decides, codes, sym, ap, ◌∙◌, subst, ⊎_elim, arith, length-drop, rules}
 use Rattle.std.proofs.lemmas.Slice.Eq.{bytes_eq-Decides}
-use Rattle.std.proofs.lemmas.List.{append-nil, append_assoc, take_rest, take_at}
+use Rattle.std.proofs.lemmas.List.{append-nil, append_assoc, take_rest}
 use Rattle.std.proofs.lemmas.Bool.Decides.{eqb_tells}
 use Rattle.std.specs.Str.{bytes_eq}
 use Rattle.text.specs.Lines.{line_end, lines_in}
@@ -55,9 +55,6 @@ pub record Past (bs rest : List ℕ) : Type 0 where
   pub text : text_of (lines_in bs) ≡ front ++ text_of (lines_in rest)
   pub behind : behind_text (lines_in bs) ≡ behind_text (lines_in rest)
 
-pub past_none : (bs : List ℕ) → Past bs bs
-past_none bs = record { front = []; whole = refl; text = refl; behind = refl }
-
 module _ (bs rest line after : List ℕ) (b : Past bs rest) (c : Cut rest line after) where
   pub past_line : ends_text line ≡ false → Past bs after
   past_line f =
@@ -68,16 +65,3 @@ module _ (bs rest line after : List ℕ) (b : Past bs rest) (c : Cut rest line a
         text = b.text ∙ ap (λ ls. b.front ++ text_of ls) c.lines ∙ ap (λ t. b.front ++ cond t [] (line ++ (nl ++ text_of (lines_in after)))) f ∙ ap (λ xs. b.front ++ xs) (sym (append_assoc line nl (text_of (lines_in after)))) ∙ sym (append_assoc b.front (line ++ nl) (text_of (lines_in after)));
         behind = b.behind ∙ ap behind_text c.lines ∙ ap (λ t. cond t (lines_in after) (behind_text (lines_in after))) f;
       }
-
-  pub text_ends : ends_text line ≡ true → (take (length bs - length rest) bs ≡ text_of (lines_in bs)) × (lines_in after ≡ behind_text (lines_in bs)) × (length after ≤ length bs)
-  text_ends t =
-      let l : length bs ≡ length b.front + length rest = ap length b.whole ∙ length-append b.front rest in
-      let n : length bs - length rest ≡ length b.front = omega arith in
-      let e : text_of (lines_in bs) ≡ b.front = b.text ∙ ap (λ ls. b.front ++ text_of ls) c.lines ∙ ap (λ u. b.front ++ cond u [] (line ++ (newline c.ended ++ text_of (lines_in after)))) t ∙ append-nil b.front in (
-        ap (λ k. take k bs) n ∙ ap (take (length b.front)) b.whole ∙ take_at b.front rest _ refl ∙ sym e,
-        sym (b.behind ∙ ap behind_text c.lines ∙ ap (λ u. cond u (lines_in after) (behind_text (lines_in after))) t),
-        omega (arith, c.shorter),
-      )
-
-pub all_text : (bs rest : List ℕ) → Past bs rest → rest ≡ [] → (bs ≡ text_of (lines_in bs)) × ([] ≡ behind_text (lines_in bs))
-all_text bs rest b e = (b.whole ∙ ap (λ xs. b.front ++ xs) e ∙ ap (λ xs. b.front ++ text_of (lines_in xs)) (sym e) ∙ sym b.text, sym (b.behind ∙ ap (λ xs. behind_text (lines_in xs)) e))

@@ -1,15 +1,11 @@
 -- What chains over the fields of a line answer, against the kinds' rules.
-use Rattle.std.proofs.Common.{◌≡◌, ℕ, zero, suc, ◌+◌, ◌<◌, ◌≤◌, false, ◌&&◌, List, [], ◌∷◌, map, length, get_or, drop, ℤ, pos, Some, None, sym, refl, ap, ◌∙◌, ⊎_elim, arith}
+use Rattle.std.proofs.Common.{◌≡◌, ℕ, suc, ◌+◌, ◌<◌, ◌≤◌, false, ◌&&◌, List, [], ◌∷◌, length, get_or, drop, ℤ, pos, Some, None, sym, refl, ap, ◌∙◌, ⊎_elim, arith}
 use Rattle.std.proofs.lemmas.Bool.{cases_lt, and_left, and_right}
 use Rattle.std.proofs.lemmas.List.{at_drop_more, at_drop_all, get_or_past}
-use Rattle.std.specs.List.{list_all, enumerate_from, zip, slice_get}
-use Rattle.std.specs.Option.{unwrap_or}
-use Rattle.text.specs.declared.fields.Fields.{Fields}
+use Rattle.std.specs.List.{list_all, enumerate_from, zip}
 use Rattle.text.specs.declared.fields.Kind.{Kind}
-use Rattle.text.specs.declared.fields.Kind.TheVariants as k
 use Rattle.text.specs.declared.line.Word.{Word}
 use Rattle.text.specs.Numbers.{whole_of, kind_of}
-use Rattle.text.specs.Values.{values}
 use Rattle.kinds.specs.Named.{names, there, all_there}
 use Rattle.kinds.specs.Kinds.{same_kind, kind_in, starts, takes}
 
@@ -31,9 +27,7 @@ takes_uneven ks (z ∷ zs) [] h = refl
 takes_uneven ks (z ∷ zs) (p ∷ ps) h = and_right _ _ (takes_uneven ks zs ps (λ e. h (ap suc e)))
 
 no_kind : (k : Kind) → same_kind (Some k) None ≡ false
-no_kind k.Number = refl
-no_kind k.ModNumber = refl
-no_kind k.ModList = refl
+no_kind k = grind arith
 
 -- kinds, with their indices from j on, against the parameters from j on
 pub starts_over : (lead : List Kind) (j : ℕ) (zs : List ℤ) → list_all (λ p. same_kind (Some p.1) (kind_of (get_or zs p.0 (pos 0)))) (enumerate_from j lead) ≡ starts lead (drop j zs)
@@ -45,8 +39,3 @@ starts_over (k ∷ lead) j zs = ⊎_elim (within (starts_over lead (j + 1) zs)) 
 
     past : length zs ≤ j → (same_kind (Some k) (kind_of (get_or zs j (pos 0))) && list_all (λ p. same_kind (Some p.1) (kind_of (get_or zs p.0 (pos 0)))) (enumerate_from (j + 1) lead)) ≡ starts (k ∷ lead) (drop j zs)
     past l = and_left _ _ (ap (λ z. same_kind (Some k) (kind_of z)) (get_or_past zs j (pos 0) l) ∙ no_kind k) ∙ sym (at_drop_all (starts (k ∷ lead)) zs j l)
-
-pub head_found : (hs : List Fields) (i : ℕ) (none : Fields) → values none ≡ [] → values (unwrap_or (slice_get hs i) none) ≡ get_or (map values hs) i []
-head_found [] i none e = e
-head_found (h ∷ hs) zero none e = refl
-head_found (h ∷ hs) (suc i) none e = head_found hs i none e

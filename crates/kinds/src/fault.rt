@@ -5,6 +5,7 @@ ghost use Rattle.kinds.specs.declared.fault.Refusal.TheVariants.{Fault, Memory};
 
 use shape::fault::ShapeFault;
 use std::alloc::AllocError;
+use std::error::Error;
 use std::fmt;
 use text::line::LineFault;
 
@@ -122,3 +123,5 @@ impl fmt::Display for KindFault {
         write!(f, "fault {number} line {line} layer {layer}")
     }
 }
+
+impl Error for KindFault {}

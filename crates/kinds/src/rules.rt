@@ -21,32 +21,10 @@ pub enum Names {
 fn names_of(word: Word, j: usize) -> Names
     ensures { result ≡ names word j }
 {
-    match word {
-        Word::Inp | Word::Fun | Word::Lit | Word::Nil => Names::Value,
-        Word::Run
-        | Word::Add
-        | Word::Sub
-        | Word::Mul
-        | Word::Div
-        | Word::Min
-        | Word::Max
-        | Word::Put
-        | Word::Con => Names::Register,
-        Word::New => if j == 0 {
-            Names::Function
-        } else {
-            Names::Register
-        },
-        Word::Get => if j == 1 {
-            Names::Function
-        } else {
-            Names::Register
-        },
-        Word::Cas => if j == 1 || j == 2 {
-            Names::Function
-        } else {
-            Names::Register
-        },
+    match (word, j) {
+        (Word::Inp | Word::Fun | Word::Lit | Word::Nil, _) => Names::Value,
+        (Word::New, 0) | (Word::Get, 1) | (Word::Cas, 1 | 2) => Names::Function,
+        _ => Names::Register,
     }
 }
 

@@ -1,7 +1,6 @@
 -- Lines without a fault are formed: in the right order, each with fields that can be read back.
-use Rattle.std.proofs.Common.{◌≡◌, ℕ, ◌+◌, ◌≤◌, Bool, true, false, cond, ◌&&◌, eqb, ltb, leb, List, [], ◌∷◌, map, length, get_or, drop, ℤ, pos, negsuc, is_some, Some, None, Option, sym, refl, ap, ◌∙◌, subst, ⊎_elim, arith}
-use Rattle.std.proofs.lemmas.Bool.{and_parts, leb-true}
-use Rattle.std.proofs.lemmas.Bool.Decides.{eqb_tells}
+use Rattle.std.proofs.Common.{◌≡◌, ℕ, ◌+◌, ◌≤◌, Bool, true, false, cond, ◌&&◌, eqb, ltb, leb, List, [], ◌∷◌, map, length, get_or, drop, ℤ, pos, negsuc, is_some, Some, None, Option, sym, refl, ap, ◌∙◌, subst, arith}
+use Rattle.std.proofs.lemmas.Bool.{and_parts, eqb-true, leb-true}
 use Rattle.text.specs.declared.fields.Kind.{Kind}
 use Rattle.text.specs.declared.fields.Kind.TheVariants as k
 use Rattle.text.specs.declared.line.Word.{Word}
@@ -11,7 +10,6 @@ use Rattle.text.specs.Lines.{Said}
 use Rattle.text.specs.Numbers.{whole_of, kind_of}
 use Rattle.text.proofs.Passes.{or_none}
 use Rattle.shape.specs.declared.standing.Part.{Part}
-use Rattle.shape.specs.declared.standing.Part.TheVariants as p
 use Rattle.shape.specs.declared.standing.Due.TheVariants as d
 use Rattle.shape.specs.declared.standing.Standing.{Standing}
 use Rattle.shape.specs.Parts.{part_of, fits, is_tail, placed, fewest, most, counted, result_kind, all_kinds, inputs_fit}
@@ -24,14 +22,10 @@ use Rattle.program.specs.Formed.{Held, Whole, due_after, Formed}
 use Rattle.program.proofs.Entries.{named_whole}
 
 pub all_three : {F : Type 0} (a b c : Bool) (f g h : F) → cond a (cond b (cond c None (Some f)) (Some g)) (Some h) ≡ None → (a ≡ true) × (b ≡ true) × (c ≡ true)
-all_three true true true f g h e = (refl, refl, refl)
-all_three true true false f g h e = absurd (cc)
-all_three true false c f g h e = absurd (cc)
-all_three false b c f g h e = absurd (cc)
+all_three a b c f g h e = grind arith
 
 all_two : {F : Type 0} (a b : Bool) (f g : F) → cond a (cond b None (Some f)) (Some g) ≡ None → a ≡ true
-all_two true b f g e = refl
-all_two false b f g e = absurd (cc)
+all_two a b f g e = grind arith
 
 -- the fields of INP and of FUN
 inputs_whole : (zs : List ℤ) → length zs ≡ 2 → inputs_fit (whole_of (get_or zs 0 (pos 0))) (whole_of (get_or zs 1 (pos 0))) ≡ true → Whole zs
@@ -46,13 +40,10 @@ kind_back : (z : ℤ) → is_some (kind_of z) ≡ true → kind_number (or_numbe
 kind_back (negsuc n) e = absurd (cc)
 kind_back (pos n) e = by_number n (eqb n 1) (eqb n 2) (eqb n 3) refl refl refl e
   where
-    eqb_is : (a b : ℕ) → eqb a b ≡ true → a ≡ b
-    eqb_is a b q = ⊎_elim (λ h. h.1) (λ h. absurd (let z : true ≡ false = cc in let y : ◌≡◌ {A = ℕ} 0 1 = cc in omega arith)) (eqb_tells a b)
-
     by_number : (n : ℕ) (a b c : Bool) → eqb n 1 ≡ a → eqb n 2 ≡ b → eqb n 3 ≡ c → is_some (cond a (Some k.Number) (cond b (Some k.ModNumber) (cond c (Some k.ModList) None))) ≡ true → kind_number (or_number (cond (eqb n 1) (Some k.Number) (cond (eqb n 2) (Some k.ModNumber) (cond (eqb n 3) (Some k.ModList) None)))) ≡ pos n
-    by_number n true b c p q r e = let x = eqb_is n 1 p in rw p (ap pos (sym x))
-    by_number n false true c p q r e = let x = eqb_is n 2 q in rw (p, q) (ap pos (sym x))
-    by_number n false false true p q r e = let x = eqb_is n 3 r in rw (p, q, r) (ap pos (sym x))
+    by_number n true b c p q r e = let x = eqb-true n 1 p in rw p (ap pos (sym x))
+    by_number n false true c p q r e = let x = eqb-true n 2 q in rw (p, q) (ap pos (sym x))
+    by_number n false false true p q r e = let x = eqb-true n 3 r in rw (p, q, r) (ap pos (sym x))
     by_number n false false false p q r e = absurd (cc)
 
 kinds_back : (zs : List ℤ) → all_kinds zs ≡ true → map kind_number (kinds_in zs) ≡ zs
@@ -62,8 +53,7 @@ kinds_back (z ∷ zs) e =
     ap (λ y. y ∷ map kind_number (kinds_in zs)) (kind_back z h.0) ∙ ap (λ ys. z ∷ ys) (kinds_back zs h.1)
 
 result_some : (o : Option Kind) → result_kind o ≡ true → is_some o ≡ true
-result_some None e = absurd (cc)
-result_some (Some x) e = refl
+result_some o e = grind arith
 
 head_back : (zs : List ℤ) → 1 ≤ length zs → (b : Bool) → (b && (result_kind (kind_of (get_or zs 0 (pos 0))) && all_kinds (drop 1 zs))) ≡ true → map kind_number (kinds_in zs) ≡ zs
 head_back [] l b e = absurd (omega arith)
@@ -77,15 +67,13 @@ few : (k : Word) (n : ℕ) → counted k n ≡ true → (fewest k ≤ n) × (n �
 few k n e = let h = and_parts (leb (fewest k) n) (leb n (most k)) e in (leb-true (fewest k) n h.0, leb-true n (most k) h.1)
 
 named : (b : Bool) → cond b m.Function m.Register ≡ m.Value → ⊥
-named true e = cc
-named false e = cc
+named b e = grind arith
 
 either_named : (a b : Bool) → cond a m.Function (cond b m.Function m.Register) ≡ m.Value → ⊥
-either_named true b e = cc
-either_named false b e = named b e
+either_named a b e = grind arith
 
 register : m.Register ≡ m.Value → ⊥
-register e = cc
+register e = grind arith
 
 module _ (s : Standing) (rs fs : ℕ) where
   held : (k : Word) (zs : List ℤ) → counted k (length zs) ≡ true → ranged s (part_of k) zs ≡ true → all_there rs fs k 0 zs ≡ true → Held k zs
@@ -108,22 +96,10 @@ module _ (s : Standing) (rs fs : ℕ) where
 
 -- positions
 due_is : (s : Standing) (x : Part) (n : ℕ) → (behind_part s x n).due ≡ due_after x
-due_is s p.Inputs n = refl
-due_is s p.Run n = refl
-due_is s p.Head n = refl
-due_is s p.Command n = refl
-due_is s p.Tail n = refl
+due_is s x n = grind arith
 
 tail_last : (b : Bool) (x : Part) → (b && is_tail x) ≡ true → due_after x ≡ d.Head
-tail_last b p.Tail e = refl
-tail_last true p.Inputs e = absurd (cc)
-tail_last true p.Run e = absurd (cc)
-tail_last true p.Head e = absurd (cc)
-tail_last true p.Command e = absurd (cc)
-tail_last false p.Inputs e = absurd (cc)
-tail_last false p.Run e = absurd (cc)
-tail_last false p.Head e = absurd (cc)
-tail_last false p.Command e = absurd (cc)
+tail_last b x e = grind arith
 
 module _ (hs : List (List ℤ)) where
   pub formed : (s : Standing) (g : Known) (n : ℕ) (x : Said) (xs : List Said) → first after shape_rules s n (x ∷ xs) ≡ None → first (known_after hs) (kind_rules hs) g n (x ∷ xs) ≡ None → Formed s.due (x ∷ xs)

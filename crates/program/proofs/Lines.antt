@@ -1,97 +1,21 @@
 -- What is read line by line is what the lines say.
-use Rattle.std.proofs.Common.{◌≡◌, ℕ, Bool, true, false, List, [], ◌∷◌, ◌++◌, map, get_or, drop, ℤ, pos, vec_items, sym, refl, ap, ◌∙◌, subst, arith}
-use Rattle.std.proofs.lemmas.List.{append_assoc}
+use Rattle.std.proofs.Common.{◌≡◌, ℕ, true, arith, List, [], ◌∷◌, get_or, ℤ, pos, sym, refl, ap, ◌∙◌, subst}
 use Rattle.std.specs.List.{flat_map}
-use Rattle.text.specs.declared.fields.Kind.{Kind}
 use Rattle.text.specs.declared.line.Word.{Word}
 use Rattle.text.specs.declared.line.Word.TheVariants as w
 use Rattle.text.specs.Lines.{Said}
-use Rattle.text.specs.Numbers.{kind_of}
-use Rattle.shape.specs.declared.standing.Part.{Part}
-use Rattle.shape.specs.declared.standing.Part.TheVariants as p
-use Rattle.shape.specs.declared.standing.Due.{Due}
 use Rattle.shape.specs.declared.standing.Due.TheVariants as d
 use Rattle.shape.specs.Parts.{part_of, fits}
-use Rattle.kinds.specs.Kinds.{kinds_in, or_number}
 use Rattle.program.specs.declared.function.Function.{Function}
-use Rattle.program.specs.Programs.{command_line, tail_line, head_said, function_lines, lines_with, wholes}
+use Rattle.program.specs.Programs.{function_lines, lines_with, wholes}
 use Rattle.program.specs.Formed.{Held, due_after, Formed, Gives, entry_of, entries}
 use Rattle.program.proofs.Entries.{two_back}
 
--- the next line, where lines are formed
-pub next_formed : (due : Due) (l m : List Said) (k : Word) (zs : List ℤ) (x : Said) → l ≡ x ∷ m → (k, zs) ≡ x → Formed due l → (fits due (part_of k) ≡ true) × Held k zs × Formed (due_after (part_of k)) m
-next_formed due l m k zs x e q f = subst (Formed due) (e ∙ ap (λ y. y ∷ m) (sym q)) f
-
-pub body_command : (x : Part) → fits d.Body x ≡ true → (x ≡ p.Tail → ⊥) → x ≡ p.Command
-body_command p.Command f t = refl
-body_command p.Tail f t = absurd (t refl)
-body_command p.Inputs f t = absurd (cc)
-body_command p.Run f t = absurd (cc)
-body_command p.Head f t = absurd (cc)
-
--- the parts of one word
-abbrev single : Part → Bool
-single p.Inputs = true
-single p.Run = true
-single p.Head = true
-single p.Command = false
-single p.Tail = false
-
-abbrev sole : Part → Word
-sole p.Inputs = w.Inp
-sole p.Run = w.Run
-sole p.Head = w.Fun
-sole p.Command = w.Lit
-sole p.Tail = w.Nil
-
-sole_is : (k : Word) → single (part_of k) ≡ true → k ≡ sole (part_of k)
-sole_is w.Inp e = refl
-sole_is w.Run e = refl
-sole_is w.Fun e = refl
-sole_is w.Lit e = absurd (cc)
-sole_is w.Add e = absurd (cc)
-sole_is w.Sub e = absurd (cc)
-sole_is w.Mul e = absurd (cc)
-sole_is w.Div e = absurd (cc)
-sole_is w.Min e = absurd (cc)
-sole_is w.Max e = absurd (cc)
-sole_is w.New e = absurd (cc)
-sole_is w.Put e = absurd (cc)
-sole_is w.Nil e = absurd (cc)
-sole_is w.Con e = absurd (cc)
-sole_is w.Get e = absurd (cc)
-sole_is w.Cas e = absurd (cc)
-
-inputs_part : (x : Part) → fits d.Inputs x ≡ true → x ≡ p.Inputs
-inputs_part p.Inputs e = refl
-inputs_part p.Run e = absurd (cc)
-inputs_part p.Head e = absurd (cc)
-inputs_part p.Command e = absurd (cc)
-inputs_part p.Tail e = absurd (cc)
-
-run_part : (x : Part) → fits d.Run x ≡ true → x ≡ p.Run
-run_part p.Inputs e = absurd (cc)
-run_part p.Run e = refl
-run_part p.Head e = absurd (cc)
-run_part p.Command e = absurd (cc)
-run_part p.Tail e = absurd (cc)
-
 pub inputs_due : (k : Word) → fits d.Inputs (part_of k) ≡ true → k ≡ w.Inp
-inputs_due k e = let q = inputs_part (part_of k) e in sole_is k (ap single q) ∙ ap sole q
+inputs_due k e = grind arith
 
 pub run_due : (k : Word) → fits d.Run (part_of k) ≡ true → k ≡ w.Run
-run_due k e = let q = run_part (part_of k) e in sole_is k (ap single q) ∙ ap sole q
-
--- a head that is read says what its line says
-pub head_read : (r : Kind) (ps : List Kind) (zs : List ℤ) → r ≡ or_number (kind_of (get_or zs 0 (pos 0))) → ps ≡ kinds_in (drop 1 zs) → Held w.Fun zs → head_said r ps ≡ (w.Fun, zs)
-head_read r ps [] e q h = absurd (let l = h.0 in omega arith)
-head_read r ps (z ∷ zs) e q h = ap (λ x. head_said x ps) e ∙ ap (head_said (or_number (kind_of z))) q ∙ ap (λ ys. (w.Fun, ys)) h.1
-
--- a function ends with its tail
-pub function_ends : (f : Function) (h x : Said) (L l m : List Said) → head_said f.result (vec_items f.params) ≡ h → map command_line (vec_items f.commands) ++ l ≡ L → l ≡ x ∷ m → tail_line f.tail ≡ x → h ∷ L ≡ function_lines f ++ m
-function_ends f h x L l m a b c e =
-    let cs = map command_line (vec_items f.commands) in
-    ap (λ y. y ∷ L) (sym a) ∙ ap (λ ys. head_said f.result (vec_items f.params) ∷ ys) (sym b ∙ ap (λ ys. cs ++ ys) (c ∙ ap (λ y. y ∷ m) (sym e)) ∙ sym (append_assoc cs (tail_line f.tail ∷ []) m))
+run_due k e = grind arith
 
 pub gives : (l m : List Said) (k : Word) (zs : List ℤ) (x : Said) → l ≡ x ∷ m → (k, zs) ≡ x → Gives l zs m
 gives l m k zs x e q = subst (λ ls. Gives ls zs m) (sym (e ∙ ap (λ y. y ∷ m) (sym q))) (refl, refl)

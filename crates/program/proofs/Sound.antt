@@ -1,5 +1,5 @@
 -- A program that keeps the rules is sound.
-use Rattle.std.proofs.Common.{◌≡◌, ℕ, zero, suc, ◌+◌, ◌<◌, ◌≤◌, Bool, true, false, cond, ◌&&◌, ltb, leb, ◌⊎◌, List, [], ◌∷◌, ◌++◌, map, length, get_or, drop, ℤ, pos, Some, None, vec_items, Option, sym, refl, ap, ◌∙◌, subst, inl, inr, arith}
+use Rattle.std.proofs.Common.{◌≡◌, ℕ, zero, suc, ◌+◌, ◌<◌, ◌≤◌, Bool, true, cond, ◌&&◌, ltb, leb, ◌⊎◌, List, [], ◌∷◌, ◌++◌, map, length, get_or, drop, ℤ, pos, Some, None, vec_items, Option, sym, refl, ap, ◌∙◌, subst, arith}
 use Rattle.std.proofs.lemmas.List.{length-map, length-append, get_or-map, drop-map}
 use Rattle.std.proofs.lemmas.Bool.{and_parts, leb-true, ltb-true, lt-ltb}
 use Rattle.std.specs.List.{flat_map}
@@ -33,31 +33,20 @@ use Rattle.program.proofs.Viewed.{command_said, tail_said, body_said, function_s
 
 -- rules that tell no fault are kept
 passed : {F : Type 0} (b : Bool) (a : Option F) (x : F) → cond b a (Some x) ≡ None → (b ≡ true) × (a ≡ None)
-passed true a x e = (refl, e)
-passed false a x e = absurd (cc)
+passed b a x e = grind arith
 
 -- kinds
 same_true : (o : Option Kind) (x : Kind) → same_kind o (Some x) ≡ true → o ≡ Some x
-same_true None x e = absurd (cc)
-same_true (Some k.Number) k.Number e = refl
-same_true (Some k.Number) k.ModNumber e = absurd (cc)
-same_true (Some k.Number) k.ModList e = absurd (cc)
-same_true (Some k.ModNumber) k.Number e = absurd (cc)
-same_true (Some k.ModNumber) k.ModNumber e = refl
-same_true (Some k.ModNumber) k.ModList e = absurd (cc)
-same_true (Some k.ModList) k.Number e = absurd (cc)
-same_true (Some k.ModList) k.ModNumber e = absurd (cc)
-same_true (Some k.ModList) k.ModList e = refl
+same_true o x e = grind arith
 
 same_said : (o : Option Kind) (x : Kind) → same_kind o (kind_of (kind_number x)) ≡ true → o ≡ Some x
 same_said o x e = same_true o x (subst (λ q. same_kind o q ≡ true) (kind_told x) e)
 
 is_same : (x y : Kind) → same_kind (Some x) (Some y) ≡ true → x ≡ y
-is_same x y e = let q = same_true (Some x) y e in cc
+is_same x y e = grind arith
 
 holds_by : (b : Bool) (y x : Kind) → cond b (Some y) None ≡ Some x → (b ≡ true) × (y ≡ x)
-holds_by true y x e = (refl, cc)
-holds_by false y x e = absurd (cc)
+holds_by b y x e = grind arith
 
 held_in : (ks : List Kind) (i : ℕ) (x : Kind) → kind_in ks (Some i) ≡ Some x → Holds ks i x
 held_in ks i x e = let h = holds_by (ltb i (length ks)) (get_or ks i k.Number) x e in (ltb-true i (length ks) h.0, h.1)
@@ -269,9 +258,7 @@ body_fits s n (c ∷ cs) t ls l e =
     (omega arith, omega arith, record { s = g.s; n = g.n; of_functions = g.of_functions; of_steps = omega arith; stands = g.stands })
 
 writes_mod : (x : Kind) → result_kind (Some x) ≡ true → (x ≡ k.ModNumber) ⊎ (x ≡ k.ModList)
-writes_mod k.Number e = absurd (cc)
-writes_mod k.ModNumber e = inl refl
-writes_mod k.ModList e = inr refl
+writes_mod x e = grind arith
 
 -- a function's own limits
 abbrev Fitting : FunctionView → Type 0

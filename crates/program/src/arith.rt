@@ -1,5 +1,5 @@
 ghost use Rattle.std.specs.Prelude.{◌≡◌, ℤ};
-ghost use Rattle.program.specs.Arith.{applied, divided};
+ghost use Rattle.program.specs.Arith.{applied};
 
 // The operations on numbers from -2147483648 to 2147483647.
 #[derive(Clone, Copy, PartialEq, Eq, Debug)]
@@ -21,16 +21,10 @@ impl Op {
             Op::Add => a.saturating_add(b),
             Op::Sub => a.saturating_sub(b),
             Op::Mul => a.saturating_mul(b),
-            Op::Div => divide(a, b),
+            // The fraction is dropped, towards zero; a divisor 0 gives 0.
+            Op::Div => if b == 0 { 0 } else { a.saturating_div(b) },
             Op::Min => a.min(b),
             Op::Max => a.max(b),
         }
     }
-}
-
-// The fraction is dropped, towards zero; a divisor 0 gives 0.
-fn divide(a: i32, b: i32) -> i32
-    ensures { result ≡ divided a b }
-{
-    if b == 0 { 0 } else { a.saturating_div(b) }
 }

@@ -1,20 +1,8 @@
-use Rattle.std.proofs.Common.{[], ◌++◌, vec_items, sym, ap, ◌∙◌, subst}
+use Rattle.std.proofs.Common.{[], vec_items, sym, subst}
 use Rattle.std.proofs.lemmas.Bool.{eqb-true}
-use Rattle.std.proofs.lemmas.List.{append-nil, append_assoc, nil_from_length}
+use Rattle.std.proofs.lemmas.List.{append-nil, nil_from_length}
 use Rattle.journal.specs.Answers.{Answered, ends}
 use Rattle.journal.proofs.answer.answer.Goals as goal
-
-pub loop-rest-init : goal.loop-rest-init
-loop-rest-init c = λ out a. subst (λ xs. Answered c.args.journal.now (xs ++ out)) (sym c.new-out.ensures.items) a
-
-pub loop-rest-preserved : goal.loop-rest-preserved
-loop-rest-preserved c = λ out a.
-    let g = c.in_ok-rest.ensures in
-    let before = vec_items c.loop-rest.out in
-    subst (Answered c.args.journal.now) (sym (ap (λ xs. xs ++ out) g.added ∙ append_assoc before g.said out)) (c.loop-rest.invariant (g.said ++ out) (g.goes out a))
-
-pub loop-rest-smaller : goal.loop-rest-smaller
-loop-rest-smaller c = c.in_ok-rest.ensures.shorter
 
 pub returns : goal.returns
 returns c =

@@ -9,11 +9,6 @@ use Rattle.kinds.specs.Kinds.{heads_of, known_after, kind_rules, unknown}
 use Rattle.kinds.proofs.Over.{shaped}
 use Rattle.kinds.proofs.check.check_rules.Goals as goal
 
-pub heads-requires : goal.heads-requires
-heads-requires c =
-    let bs = c.args.text.now in
-    (shaped bs (answer_ok tt c.in_ok-check_shape.field-0 (shape_fault bs) c.in_ok-check_shape.ensures).0).0
-
 pub loop-line-init : goal.loop-line-init
 loop-line-init c =
     let bs = c.args.text.now in

@@ -1,5 +1,4 @@
 use Rattle.std.proofs.Common.{ℕ, List, Err, refl}
-use Rattle.std.proofs.lemmas.Result.{err_from_is_err_and}
 use Rattle.kinds.specs.declared.fault.Refusal.{Refusal}
 use Rattle.kinds.specs.declared.fault.Refusal.TheVariants.{Fault, Memory}
 use Rattle.kinds.specs.Laws.{Judged}
@@ -15,13 +14,3 @@ refused bs p Memory j = refl
 
 pub returns : goal.returns
 returns c = (c.in_ok-check_kinds.ensures.judged, says c.args.text.now c.in_ok-place.field-0 c.in_ok-check_kinds.ensures.tells c.in_ok-place.ensures, sound c.in_ok-place.field-0)
-
-pub returns-in_err-check_kinds : goal.returns-in_err-check_kinds
-returns-in_err-check_kinds c =
-    let q = err_from_is_err_and c.from_residual.result c.from_residual.ensures.1 in
-    rw (q.1, q.2) (refused c.args.text.now c.args.place.now _ c.in_err-check_kinds.ensures.judged)
-
-pub returns-in_err-place : goal.returns-in_err-place
-returns-in_err-place c =
-    let q = err_from_is_err_and c.from_residual-in_err-place.result c.from_residual-in_err-place.ensures.1 in
-    rw (q.1, q.2) refl

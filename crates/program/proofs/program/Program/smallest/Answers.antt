@@ -7,6 +7,3 @@ invariant_of-result c =
     let run = vec_items c.new.result in
     let fs = vec_items c.in_ok-functions.functions in
     record { keeps = smallest_keeps run fs (smallest_is run fs c.in_ok-writes_zero.field-0 c.new.ensures.items c.in_ok-functions.ensures.items c.in_ok-writes_zero.ensures) }
-
-pub returns : goal.returns
-returns c = smallest_is (vec_items c.new.result) (vec_items c.in_ok-functions.functions) c.in_ok-writes_zero.field-0 c.new.ensures.items c.in_ok-functions.ensures.items c.in_ok-writes_zero.ensures

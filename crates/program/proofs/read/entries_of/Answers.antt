@@ -1,9 +1,0 @@
-use Rattle.std.proofs.Common.{rules}
-use Rattle.std.proofs.lemmas.Iterator.{YieldsList-from_map, items_from_collect}
-use Rattle.std.proofs.lemmas.Iterator.Consumers.{YieldsList-from_first}
-use Rattle.text.specs.Values.{values, numbers_left}
-use Rattle.program.specs.Formed.{entry_of}
-use Rattle.program.proofs.read.entries_of.Goals as goal
-
-pub returns : goal.returns
-returns c = items_from_collect _ c.collect.ensures.ran (YieldsList-from_map _ entry_of (YieldsList-from_first (λ x. x) numbers_left (values c.args.fields) (cc)) c.map.ensures.closure (λ x r q h. search rules))
