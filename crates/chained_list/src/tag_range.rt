@@ -4,6 +4,7 @@ ghost use Rattle.order_list.specs.Refusals.{most_places};
 ghost use Rattle.order_list.specs.Order.{Inserted, has};
 ghost use Rattle.chained_list.specs.Tags.{tag_limit, among, behind_tag, tags_after_insert, SmallestLoose};
 ghost use Rattle.chained_list.specs.Chain.{Holds, order, tag_of, tags as tagsIn, tagged};
+ghost use Rattle.chained_list.specs.Links.{link_of};
 ghost use Rattle.chained_list.specs.Contents.{InsertedPlaces};
 ghost use Rattle.chained_list.specs.Spreading.{FirstFrom, Spreadable, LooseBlock, SpreadOut, RoomMade};
 
@@ -34,7 +35,7 @@ impl Labelling for TagRange {
 
     fn insert_in(places: &mut Places<'_>, m: usize) -> Result<usize, ListRefusal>
         ensures done { Inserted (length places.old.members.now) (order places.old.members.now) m result (order places.new.members.now) }
-        ensures placed { InsertedPlaces tags_after_insert places.old.members.now places.old.free m result places.new.members.now places.new.free }
+        ensures placed { InsertedPlaces tags_after_insert places.old.members.now (link_of places.old.free) m result places.new.members.now (link_of places.new.free) }
         ensures same { length places.new.members.now ≡ length places.old.members.now }
         ensures lent { places.new.members.ghost_name ≡ places.old.members.ghost_name }
         ensures smallest { SmallestLoose (tagged places.old.members.now) m }

@@ -1,4 +1,4 @@
-use Rattle.std.proofs.Common.{◌≡◌, ℕ, ◌<◌, ◌≤◌, eqb, length, get_or, sym, ap, ◌∙◌, inl, inr, arith, length-set, get_or-set_other, get_or-set_same}
+use Rattle.std.proofs.Common.{◌≡◌, ℕ, ◌<◌, ◌≤◌, eqb, length, get_or, sym, ap, ◌∙◌, inl, inr, arith, rules, length-set, get_or-set_other, get_or-set_same}
 use Rattle.std.proofs.lemmas.Bool.{cases_eq}
 use Rattle.chained_list.specs.declared.member.Member.{Member}
 use Rattle.chained_list.specs.Chain.{blank}
@@ -11,7 +11,7 @@ returns-then-count-eq1 c =
     let some : 0 < length ps = omega (arith, (allowed (length c.args.places.now) c.requires).0) in
     let few : length ps ≤ 4096 = omega (arith, (allowed (length c.args.places.now) c.requires).1) in
     let all : (k : ℕ) → k < length ps → get_or ps k blank ≡ born (length ps) k = λ k h. c.loop-i.invariant k (omega arith) in
-    record { only = wiped_order ps some few all; placed = cleared_one ps some few all (omega arith); kept = wiped_one ps some few all (omega arith) }
+    record { inner = search rules; only = wiped_order ps some few all; placed = cleared_one ps some few all (omega arith); kept = wiped_one ps some few all (omega arith) }
 
 pub returns-else-count-eq1 : goal.returns-else-count-eq1
 returns-else-count-eq1 c =
@@ -19,7 +19,7 @@ returns-else-count-eq1 c =
     let some : 0 < length ps = omega (arith, (allowed (length c.args.places.now) c.requires).0) in
     let few : length ps ≤ 4096 = omega (arith, (allowed (length c.args.places.now) c.requires).1) in
     let all : (k : ℕ) → k < length ps → get_or ps k blank ≡ born (length ps) k = λ k h. c.loop-i.invariant k (omega arith) in
-    record { only = wiped_order ps some few all; placed = cleared_more ps some few all (λ e. c.if-count-eq1.false (omega arith)); kept = wiped_more ps some few all (λ e. c.if-count-eq1.false (omega arith)) }
+    record { inner = search rules; only = wiped_order ps some few all; placed = cleared_more ps some few all (λ e. c.if-count-eq1.false (omega arith)); kept = wiped_more ps some few all (λ e. c.if-count-eq1.false (omega arith)) }
 
 pub loop-i-preserved : goal.loop-i-preserved
 loop-i-preserved c k lt =
