@@ -5,7 +5,7 @@ use Rattle.chained_list.specs.Links.{link_of}
 use Rattle.chained_list.proofs.Chains.{has_m}
 use Rattle.chained_list.proofs.Levels.{sound_smallest}
 use Rattle.chained_list.proofs.Standing.{each_place}
-use Rattle.chained_list.proofs.TagInsert.{has_m', v_small, sound_after, inserted_after, tagged_after, chain_after}
+use Rattle.chained_list.proofs.TagInsert.{v_small, sound_after, inserted_after, tagged_after, chain_after}
 use Rattle.chained_list.proofs.tag_range.TagRangeLabelling.insert_in.Goals as goal
 use Rattle.chained_list.proofs.tag_range.TagRangeLabelling.insert_in.Goals.{After-splice-places}
 
@@ -14,9 +14,6 @@ returns-in_err-n-clause-smallest c = sound_smallest c.args.places.now.members.no
 
 pub make_room-requires : goal.make_room-requires
 make_room-requires c = has_m _ _ _ c.in_ok-n.ensures.1
-
-pub tag_behind-requires : goal.tag_behind-requires
-tag_behind-requires c = has_m' _ _ _ _ c.in_ok-n.ensures.1 c.make_room.ensures.made
 
 pub halfway-tag-requires : goal.halfway-tag-requires
 halfway-tag-requires c =
