@@ -66,6 +66,7 @@ pub(crate) fn unlink(places: &mut [Member], m: usize, h: Option<usize>)
     };
 }
 
+// The answer is a link as a member keeps it, a narrow field where 0 leads nowhere.
 /// What place i of count links to where only the base stands: the next free place, or none.
 fn free_behind(i: usize, count: usize) -> u16
     requires { (i < count) × (count ≤ most_places) }

@@ -4,7 +4,7 @@ ghost use Rattle.chained_list.specs.Links.{link_of};
 
 /// One member place: whether it stands, the places behind and before it, and its tag.
 /// A free place links to the next free place; a link to place 0 leads nowhere.
-// The links are narrow fields and the flag stands beside them, as the list's lent member structs are laid out.
+// Links and tags are narrow fields of one lent struct, so a link to none is the number 0 and whether it stands is a flag.
 #[derive(Clone, Copy, Default)]
 pub struct Member {
     pub used: bool,

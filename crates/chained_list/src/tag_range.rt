@@ -65,6 +65,7 @@ struct Block {
     width: u64,
 }
 
+// These take a member's number beside the places: a view that holds both would stay borrowed while tags are changed.
 /// The first member with a tag of start or more, looked for from m back.
 fn first_from(places: &Places<'_>, m: usize, start: u64) -> usize
     requires member { has (order places.now.members.now) m ≡ true }
@@ -90,6 +91,7 @@ fn count_to(places: &Places<'_>, first: usize, end: u64) -> u64
     requires top { end ≤ tag_limit }
     ensures { result ≡ among (tag_of places.now.members.now first) end (tagsIn places.now.members.now) }
 {
+    // Counted by hand: the count of a `take_while` over `successors` got no proof.
     let mut at = first;
     let mut count = 1u64;
     while tag_behind(places, at) < end {
@@ -129,6 +131,7 @@ fn spread_out(members: &mut [Member], block: Block)
     requires ready { Spreadable members.old block.first block.start block.width block.count }
     ensures { SpreadOut members.old members.new block.start block.width }
 {
+    // The members of a block follow one another by their links, and not in the slice.
     let mut at = block.first;
     for j in 0..block.count {
         members[at].tag = (block.start + j * block.width / block.count) as u32;
