@@ -5,6 +5,9 @@ use Rattle.std.proofs.lemmas.Bool.Decides.{eqb_tells}
 use Rattle.std.proofs.lemmas.Bool.{cases_Bool, cases_eq, cases_lt, not-false, not-true, lt-ltb, le-ltb, eq-eqb, ne_eqb}
 use Rattle.order_list.specs.declared.refusal.ListRefusal.TheVariants.{NoMember, Full}
 use Rattle.order_list.specs.Order.{has, insert_after, insert_refusal}
+use Rattle.std.specs.Option.{ok_or}
+use Rattle.chained_list.specs.Links.{link_of}
+use Rattle.chained_list.specs.Contents.{Vacant}
 use Rattle.chained_list.specs.Chain.{StandsAs, walk, chain, order, Linked, Backed, Sound, Room, Strung, Spare, Ranging, Spliced, Retagged, blank, used_of, next_of, previous_of, tag_of}
 use Rattle.chained_list.specs.declared.member.Member.{Member}
 use Rattle.order_list.proofs.Lists.{has_here, has_there, has_none, has_tail, apart_from, has_insert, apart_insert, under_insert, under_has, fits, filled, based_has, based_insert}
@@ -270,3 +273,8 @@ module _ (ps : List Member) (h m : ℕ) (r : Room ps h m) where
       let lt : suc (length (order ps)) ≤ length ps = fits (length ps) (h ∷ order ps) (has_h, str.apart) (h_below, str.under) in
       let f : ltb (length (order ps)) (length ps) ≡ true = lt-ltb (length (order ps)) (length ps) lt in
       rw (has_m, f)
+
+-- the answer of a vacancy where m stands
+pub vacant : (ps : List Member) (free : Option ℕ) (m : ℕ) → Sound ps (link_of free) → (free ≡ Some 0 → ⊥) → true ≡ used_of ps m → Vacant ps (link_of free) m (ok_or free Full)
+vacant ps None m k i u = refused_full ps 0 m k u refl
+vacant ps (Some n) m k i u = (refl, record { sound = k; stands = u; some = λ z. i (ap Some z) })

@@ -1,9 +1,10 @@
 -- What the tags and the links of a kept list tell.
-use Rattle.std.proofs.Common.{◌≡◌, ℕ, ◌<◌, true, false, ltb, List, [], ◌∷◌, Option, Some, None, MatchOption, sym, ap, ◌∙◌, inl, inr, arith}
+use Rattle.std.proofs.Common.{◌≡◌, ℕ, ◌<◌, true, false, ltb, List, [], ◌∷◌, Option, Some, None, sym, ap, ◌∙◌, inl, inr, arith}
 use Rattle.std.proofs.lemmas.Bool.Decides.{eqb_tells}
 use Rattle.std.proofs.lemmas.Bool.{lt-ltb, le-ltb}
 use Rattle.order_list.specs.Order.{has, Apart, earlier, behind, NextIs, FirstIs}
 use Rattle.order_list.specs.Laws.{none_earlier}
+use Rattle.chained_list.specs.Links.{link_of}
 use Rattle.chained_list.specs.Chain.{StandsAs, order, first, Linked, Over, Rising, Holds, used_of, next_of, tag_of}
 use Rattle.chained_list.specs.declared.member.Member.{Member}
 use Rattle.order_list.proofs.Lists.{has_none, has_tail, no_base_behind, none_behind, none_earlier_left}
@@ -73,13 +74,12 @@ pub next_none : (ps : List Member) (m : ℕ) → Holds ps (order ps) → used_of
 next_none ps m k e = let z = none_behind (order ps) m (sym (used_is ps (order ps) k.strung m) ∙ e) in rw z tt
 
 -- the link of what stands at m, as an answer
-pub next_is : (ps : List Member) (m : ℕ) (p : Member) (r : Option ℕ) → Holds ps (order ps) → StandsAs ps m (Some p) → MatchOption r (p.next ≡ 0) (λ n. (n ≡ p.next) × (n ≡ 0 → ⊥)) →
-    NextIs (order ps) m r
-next_is ps m p r k t a =
+pub next_is : (ps : List Member) (m : ℕ) (p : Member) (r : Option ℕ) → Holds ps (order ps) → StandsAs ps m (Some p) → link_of r ≡ p.next → (r ≡ Some 0 → ⊥) → NextIs (order ps) m r
+next_is ps m p r k t l i =
     let s = k.strung in
     let h : has (order ps) m ≡ true = sym (used_is ps (order ps) s m) ∙ t.0 in
     let e : p.next ≡ first (behind (order ps) m) = ap (λ (q : Member). q.next) t.1 ∙ links_behind (next_of ps) (order ps) m s.linked h in
-    go r e a where
-      go : (r : Option ℕ) → p.next ≡ first (behind (order ps) m) → MatchOption r (p.next ≡ 0) (λ n. (n ≡ p.next) × (n ≡ 0 → ⊥)) → FirstIs (behind (order ps) m) r
-      go None e a = first_none (behind (order ps) m) (no_base_behind (order ps) m k.strung.based k.strung.apart) (sym e ∙ a)
-      go (Some n) e a = first_some (behind (order ps) m) n (a.0 ∙ e) a.1
+    go r (l ∙ e) i where
+      go : (r : Option ℕ) → link_of r ≡ first (behind (order ps) m) → (r ≡ Some 0 → ⊥) → FirstIs (behind (order ps) m) r
+      go None e i = first_none (behind (order ps) m) (no_base_behind (order ps) m k.strung.based k.strung.apart) (sym e)
+      go (Some n) e i = first_some (behind (order ps) m) n e (λ z. i (ap Some z))

@@ -3,7 +3,7 @@ use Rattle.std.proofs.Common.{◌≡◌, ℕ, ◌<◌, ◌≤◌, Bool, true, fa
 use Rattle.std.proofs.lemmas.Bool.Decides.{eqb_tells, nat_tests}
 use Rattle.std.proofs.lemmas.Bool.{cases_Bool, cases_eq}
 use Rattle.order_list.specs.Order.{has, Apart, Under, Based, without, remove_refusal}
-use Rattle.order_list.specs.declared.refusal.ListRefusal.TheVariants.{NoMember, Base}
+use Rattle.order_list.specs.declared.refusal.ListRefusal.TheVariants.{NoMember}
 use Rattle.chained_list.specs.Chain.{Ready, order, first, chain, Linked, Backed, Over, Rising, Sound, Strung, Spare, Ranging, Unlinked, used_of, next_of, previous_of, tag_of, mark, tagged}
 use Rattle.chained_list.specs.Tags.{tags_after_remove}
 use Rattle.chained_list.specs.declared.member.Member.{Member}
@@ -136,11 +136,6 @@ before_it f g (x ∷ xs) m b l back h ne =
 
 pub refused_no_member : (ps : List Member) (h m : ℕ) → Sound ps h → false ≡ used_of ps m → remove_refusal (order ps) m ≡ Some NoMember
 refused_no_member ps h m k e = let n : has (order ps) m ≡ false = sym (e ∙ used_is ps (order ps) k.holds.strung m) in rw n
-
-pub refused_base : (ps : List Member) (h m : ℕ) → Sound ps h → true ≡ used_of ps m → m ≡ 0 → remove_refusal (order ps) m ≡ Some Base
-refused_base ps h m k e z =
-    let y : has (order ps) m ≡ true = sym (e ∙ used_is ps (order ps) k.holds.strung m) in
-    elim (eqb_tells m 0) [ inl q ↦ rw (y, q.0) | inr q ↦ absurd (q.1 z) ]
 
 module _ (ps : List Member) (h m : ℕ) (r : Ready ps h m) where
   str : Strung ps (order ps)

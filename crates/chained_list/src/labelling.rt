@@ -3,6 +3,7 @@ ghost use Rattle.std.specs.Prelude.{◌≡◌, ℕ, List, length};
 ghost use Rattle.order_list.specs.Order.{Inserted};
 ghost use Rattle.chained_list.specs.Tags.{Tagged};
 ghost use Rattle.chained_list.specs.Chain.{order};
+ghost use Rattle.chained_list.specs.Links.{link_of};
 ghost use Rattle.chained_list.specs.Contents.{InsertedPlaces};
 
 use crate::places::Places;
@@ -16,7 +17,7 @@ pub trait Labelling {
     /// Puts the first free place behind m, in the same lent slice.
     fn insert_in(places: &mut Places<'_>, m: usize) -> Result<usize, ListRefusal>
         ensures done { Inserted (length places.old.members.now) (order places.old.members.now) m result (order places.new.members.now) }
-        ensures placed { InsertedPlaces after places.old.members.now places.old.free m result places.new.members.now places.new.free }
+        ensures placed { InsertedPlaces after places.old.members.now (link_of places.old.free) m result places.new.members.now (link_of places.new.free) }
         ensures same { length places.new.members.now ≡ length places.old.members.now }
         ensures lent { places.new.members.ghost_name ≡ places.old.members.ghost_name };
 }

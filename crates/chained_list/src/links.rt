@@ -2,6 +2,7 @@
 ghost use Rattle.std.specs.Prelude.{◌≡◌, suc, ◌+◌, ◌<◌, ◌≤◌, true, false, [], ◌∷◌, length, if◌then◌else◌, Some, None, MatchResult, ◌≢◌, nat_eq};
 ghost use Rattle.order_list.specs.Refusals.{most_places};
 ghost use Rattle.order_list.specs.Order.{make_refusal};
+ghost use Rattle.chained_list.specs.Links.{link_of};
 ghost use Rattle.chained_list.specs.Contents.{Cleared};
 ghost use Rattle.chained_list.specs.Chain.{Sound, order, next_of, previous_of, link_both, Room, Ready, Spliced, Unlinked};
 
@@ -33,12 +34,13 @@ fn link(places: &mut [Member], a: usize, b: usize)
 
 /// Puts the free place n with the tag directly behind m, and tells the place that it linked to.
 #[tactic(auto, using(crate::proofs::Chains::m_below, crate::proofs::Chains::h_below, crate::proofs::Chains::x_below))]
-pub(crate) fn splice(places: &mut [Member], m: usize, n: usize, tag: u32) -> usize
+pub(crate) fn splice(places: &mut [Member], m: usize, n: usize, tag: u32) -> Option<usize>
     requires { Room places.old n m }
-    ensures free { result ≡ next_of places.old n }
+    ensures free { link_of result ≡ next_of places.old n }
+    ensures inner { result ≢ Some 0 }
     ensures spliced { Spliced places.old places.new m n tag }
 {
-    let free = places[n].next as usize;
+    let free = places[n].behind();
     let next = places[m].next as usize;
     places[n] = Member {
         used: true,
@@ -50,20 +52,21 @@ pub(crate) fn splice(places: &mut [Member], m: usize, n: usize, tag: u32) -> usi
     free
 }
 
-/// Takes m out; it then links to the free place h.
+/// Takes m out; it then links to h, the first free place.
 #[tactic(auto, using(crate::proofs::Remove::p_below, crate::proofs::Remove::x_below, crate::proofs::Remove::h_below))]
-pub(crate) fn unlink(places: &mut [Member], m: usize, h: usize)
-    requires { Ready places.old h m }
-    ensures { Unlinked places.old places.new (previous_of places.old m) m h }
+pub(crate) fn unlink(places: &mut [Member], m: usize, h: Option<usize>)
+    requires { Ready places.old (link_of h) m }
+    ensures { Unlinked places.old places.new (previous_of places.old m) m (link_of h) }
 {
     let Member { next, previous, .. } = places[m];
     link(places, previous as usize, next as usize);
     places[m] = Member {
-        next: h as u16,
+        next: h.unwrap_or(0) as u16,
         ..Member::default()
     };
 }
 
+// The answer is a link as a member keeps it, a narrow field where 0 leads nowhere.
 /// What place i of count links to where only the base stands: the next free place, or none.
 fn free_behind(i: usize, count: usize) -> u16
     requires { (i < count) × (count ≤ most_places) }
@@ -77,11 +80,12 @@ fn free_behind(i: usize, count: usize) -> u16
 }
 
 /// Leaves only the base, chains the other places, and tells the first of them.
-pub(crate) fn wipe(places: &mut [Member]) -> usize
+pub(crate) fn wipe(places: &mut [Member]) -> Option<usize>
     requires { make_refusal (length places.old) ≡ None }
     ensures only { order places.new ≡ 0 ∷ [] }
-    ensures placed { Cleared places.new result }
-    ensures kept { Sound places.new result }
+    ensures placed { Cleared places.new (link_of result) }
+    ensures inner { result ≢ Some 0 }
+    ensures kept { Sound places.new (link_of result) }
 {
     let count = places.len();
     for (i, place) in places.iter_mut().enumerate() {
@@ -91,5 +95,5 @@ pub(crate) fn wipe(places: &mut [Member]) -> usize
             ..Member::default()
         };
     }
-    if count == 1 { 0 } else { 1 }
+    if count == 1 { None } else { Some(1) }
 }

@@ -1,6 +1,7 @@
 // The lent member places of one list: one chain of links, and one of free places.
-ghost use Rattle.std.specs.Prelude.{◌≡◌, [], ◌∷◌, length};
+ghost use Rattle.std.specs.Prelude.{◌≡◌, ◌≢◌, [], ◌∷◌, length, Some};
 ghost use Rattle.order_list.specs.Order.{Removed, NextIs, earlier};
+ghost use Rattle.chained_list.specs.Links.{link_of};
 ghost use Rattle.chained_list.specs.Contents.{Vacant, Cleared, RemovedPlaces};
 ghost use Rattle.chained_list.specs.Chain.{Sound, Sound-prop, StandsAs, order};
 
@@ -13,17 +14,19 @@ use order_list::refusal::ListRefusal;
 pub struct Places<'a> {
     /// The places.
     pub members: &'a mut [Member],
-    /// The first free place, 0 where none is free.
-    pub free: usize,
+    /// The first free place.
+    pub free: Option<usize>,
+    /// The base is not free.
+    pub ghost inner: { free ≢ Some 0 },
     /// The list is in order inside.
-    pub ghost sound: { Sound members.now free } by { Sound-prop members.now free },
+    pub ghost sound: { Sound members.now (link_of free) } by { Sound-prop members.now (link_of free) },
 }
 
 impl Places<'_> {
     /// Leaves only the base.
     pub(crate) fn clear(&mut self)
         ensures only { order self.new.members.now ≡ 0 ∷ [] }
-        ensures placed { Cleared self.new.members.now self.new.free }
+        ensures placed { Cleared self.new.members.now (link_of self.new.free) }
         ensures same { length self.new.members.now ≡ length self.old.members.now }
     {
         self.free = wipe(self.members);
@@ -38,13 +41,10 @@ impl Places<'_> {
 
     /// The free place that an insertion behind m takes, or why it is refused.
     pub(crate) fn vacancy(&self, m: usize) -> Result<usize, ListRefusal>
-        ensures { Vacant self.now.members.now self.now.free m result }
+        ensures { Vacant self.now.members.now (link_of self.now.free) m result }
     {
         self.standing(m).ok_or(ListRefusal::NoMember)?;
-        if self.free == 0 {
-            return Err(ListRefusal::Full);
-        }
-        Ok(self.free)
+        self.free.ok_or(ListRefusal::Full)
     }
 
     /// Whether both stand and a has the lower tag.
@@ -69,7 +69,7 @@ impl Places<'_> {
     /// Takes m out.
     pub(crate) fn remove(&mut self, m: usize) -> Result<(), ListRefusal>
         ensures done { Removed (order self.old.members.now) m result (order self.new.members.now) }
-        ensures placed { RemovedPlaces self.old.members.now self.old.free m result self.new.members.now self.new.free }
+        ensures placed { RemovedPlaces self.old.members.now (link_of self.old.free) m result self.new.members.now (link_of self.new.free) }
         ensures same { length self.new.members.now ≡ length self.old.members.now }
     {
         self.standing(m).ok_or(ListRefusal::NoMember)?;
@@ -77,7 +77,7 @@ impl Places<'_> {
             return Err(ListRefusal::Base);
         }
         unlink(self.members, m, self.free);
-        self.free = m;
+        self.free = Some(m);
         Ok(())
     }
 }

@@ -37,6 +37,7 @@ fn renumber(places: &mut [Member])
     ensures same { Retagged places.old places.new }
     ensures ranks { Ranked places.new (order places.old) (length (order places.old)) }
 {
+    // The members follow one another by their links, and not in the slice.
     let mut at = 0usize;
     for rank in 0..places.len() {
         places[at].tag = rank as u32;

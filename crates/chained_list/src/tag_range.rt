@@ -4,6 +4,7 @@ ghost use Rattle.order_list.specs.Refusals.{most_places};
 ghost use Rattle.order_list.specs.Order.{Inserted, has};
 ghost use Rattle.chained_list.specs.Tags.{tag_limit, among, behind_tag, tags_after_insert, SmallestLoose};
 ghost use Rattle.chained_list.specs.Chain.{Holds, order, tag_of, tags as tagsIn, tagged};
+ghost use Rattle.chained_list.specs.Links.{link_of};
 ghost use Rattle.chained_list.specs.Contents.{InsertedPlaces};
 ghost use Rattle.chained_list.specs.Spreading.{FirstFrom, Spreadable, LooseBlock, SpreadOut, RoomMade};
 
@@ -34,7 +35,7 @@ impl Labelling for TagRange {
 
     fn insert_in(places: &mut Places<'_>, m: usize) -> Result<usize, ListRefusal>
         ensures done { Inserted (length places.old.members.now) (order places.old.members.now) m result (order places.new.members.now) }
-        ensures placed { InsertedPlaces tags_after_insert places.old.members.now places.old.free m result places.new.members.now places.new.free }
+        ensures placed { InsertedPlaces tags_after_insert places.old.members.now (link_of places.old.free) m result places.new.members.now (link_of places.new.free) }
         ensures same { length places.new.members.now ≡ length places.old.members.now }
         ensures lent { places.new.members.ghost_name ≡ places.old.members.ghost_name }
         ensures smallest { SmallestLoose (tagged places.old.members.now) m }
@@ -64,6 +65,7 @@ struct Block {
     width: u64,
 }
 
+// These take a member's number beside the places: a view that holds both would stay borrowed while tags are changed.
 /// The first member with a tag of start or more, looked for from m back.
 fn first_from(places: &Places<'_>, m: usize, start: u64) -> usize
     requires member { has (order places.now.members.now) m ≡ true }
@@ -89,6 +91,7 @@ fn count_to(places: &Places<'_>, first: usize, end: u64) -> u64
     requires top { end ≤ tag_limit }
     ensures { result ≡ among (tag_of places.now.members.now first) end (tagsIn places.now.members.now) }
 {
+    // Counted by hand: the count of a `take_while` over `successors` got no proof.
     let mut at = first;
     let mut count = 1u64;
     while tag_behind(places, at) < end {
@@ -128,6 +131,7 @@ fn spread_out(members: &mut [Member], block: Block)
     requires ready { Spreadable members.old block.first block.start block.width block.count }
     ensures { SpreadOut members.old members.new block.start block.width }
 {
+    // The members of a block follow one another by their links, and not in the slice.
     let mut at = block.first;
     for j in 0..block.count {
         members[at].tag = (block.start + j * block.width / block.count) as u32;

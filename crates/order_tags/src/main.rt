@@ -49,24 +49,22 @@ fn walked<L: Labelling, W: Fn(usize, usize) -> Option<usize>>(
 }
 
 /// One more tag in the sum over a list's tags.
-fn fold(sum: u64, tag: u32) -> u64 {
+fn with_tag(sum: u64, tag: u32) -> u64 {
     (sum % 1000000007 * 31 + tag as u64) % 1000000007
 }
 
 /// Writes the members' tags along the list.
 fn tell(rt: &HostRuntime, places: &[Member], name: &str, calls: usize) -> io::Result<()> {
     let count = places.len();
-    let members = successors(places.first(), |member| places.get(member.behind()?))
+    let tags: Vec<u32> = successors(places.first(), |member| places.get(member.behind()?))
         .take(count)
-        .count();
-    let sum = successors(places.first(), |member| places.get(member.behind()?))
-        .take(count)
-        .fold(0, |sum, member| fold(sum, member.tag));
+        .map(|member| member.tag)
+        .collect(rt.alloc())?;
+    let members = tags.len();
+    let sum = tags.iter().fold(0, |sum, tag| with_tag(sum, *tag));
     println!(rt; "{count} places, {calls} calls {name}: {members} members, sum {sum}")?;
-    for member in successors(places.first(), |member| places.get(member.behind()?)).take(
-        members.min(SHOWN),
-    ) {
-        println!(rt; "{}", member.tag)?;
+    for tag in tags.iter().take(SHOWN) {
+        println!(rt; "{tag}")?;
     }
     Ok(())
 }

@@ -12,12 +12,12 @@ bounds-places-m c = in_range c.args.places.now.members.now c.args.places.now.sou
 pub overflow_sub-tag_behind : goal.overflow_sub-tag_behind
 overflow_sub-tag_behind c = omega (arith, c.tag_behind.ensures, (behind_over c.args.places.now.members.now c.args.m c.args.places.now.sound.holds c.requires).0)
 
-pub invariant_of-places : goal.invariant_of-places
-invariant_of-places c =
+pub invariant_of-places-clause-sound : goal.invariant_of-places-clause-sound
+invariant_of-places-clause-sound c =
     let s = c.args.places.now.sound in
     let made = spread_made c.args.places.now.members.now c.spread_out.new.members c.args.m _ _ _ _ s.holds c.requires c.loose_block-block.ensures c.spread_out.ensures
     (omega (arith, c.tag_behind.ensures, c.if-tag_behind-tag-lt2.true)) in
-    record { sound = sound_made _ _ _ _ s made }
+    sound_made _ _ _ _ s made
 
 pub returns-then-tag_behind-tag-lt2-clause-made : goal.returns-then-tag_behind-tag-lt2-clause-made
 returns-then-tag_behind-tag-lt2-clause-made c =

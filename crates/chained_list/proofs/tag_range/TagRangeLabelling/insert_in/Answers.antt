@@ -1,21 +1,19 @@
 use Rattle.std.proofs.Common.{◌≡◌, ◌∷◌, ℕ, ◌+◌, ◌-◌, ◌/◌, sym, ap, ◌∙◌, subst, arith}
 use Rattle.chained_list.specs.Chain.{Sound, Spliced, chain, tag_of, tagged}
 use Rattle.chained_list.specs.Tags.{behind_tag}
+use Rattle.chained_list.specs.Links.{link_of}
 use Rattle.chained_list.proofs.Chains.{has_m}
 use Rattle.chained_list.proofs.Levels.{sound_smallest}
 use Rattle.chained_list.proofs.Standing.{each_place}
-use Rattle.chained_list.proofs.TagInsert.{has_m', v_small, sound_after, inserted_after, tagged_after, chain_after}
+use Rattle.chained_list.proofs.TagInsert.{v_small, sound_after, inserted_after, tagged_after, chain_after}
 use Rattle.chained_list.proofs.tag_range.TagRangeLabelling.insert_in.Goals as goal
 use Rattle.chained_list.proofs.tag_range.TagRangeLabelling.insert_in.Goals.{After-splice-places}
 
 pub returns-in_err-n-clause-smallest : goal.returns-in_err-n-clause-smallest
-returns-in_err-n-clause-smallest c = sound_smallest c.args.places.now.members.now c.args.places.now.free c.args.m c.args.places.now.sound
+returns-in_err-n-clause-smallest c = sound_smallest c.args.places.now.members.now (link_of c.args.places.now.free) c.args.m c.args.places.now.sound
 
 pub make_room-requires : goal.make_room-requires
 make_room-requires c = has_m _ _ _ c.in_ok-n.ensures.1
-
-pub tag_behind-requires : goal.tag_behind-requires
-tag_behind-requires c = has_m' _ _ _ _ c.in_ok-n.ensures.1 c.make_room.ensures.made
 
 pub halfway-tag-requires : goal.halfway-tag-requires
 halfway-tag-requires c =
@@ -35,13 +33,13 @@ halved c =
     subst (λ (x : ℕ). Spliced qs c.splice-places.new.places m c.in_ok-n.n x) e c.splice-places.ensures.spliced
 
 -- the list is in order after it
-ordered : (c : After-splice-places) → Sound c.splice-places.new.places c.splice-places.result
+ordered : (c : After-splice-places) → Sound c.splice-places.new.places (link_of c.splice-places.result)
 ordered c =
     let k = sound_after _ _ _ c.args.m c.in_ok-n.ensures.1 c.make_room.ensures.made _ (halved c) in
     subst (Sound c.splice-places.new.places) (sym c.splice-places.ensures.free) k
 
-pub invariant_of-places : goal.invariant_of-places
-invariant_of-places c = record { sound = ordered (goal.at.invariant_of-places c).After-splice-places }
+pub invariant_of-places-clause-sound : goal.invariant_of-places-clause-sound
+invariant_of-places-clause-sound c = ordered (goal.at.invariant_of-places-clause-sound c).After-splice-places
 
 pub returns : goal.returns
 returns c =
@@ -56,10 +54,10 @@ returns c =
       done = inserted_after _ _ _ m g made rs sp;
       placed = (
         tagged_after _ _ _ m g made rs sp,
-        subst (λ h. chain ps c.args.places.now.free ≡ c.in_ok-n.n ∷ chain rs h) (sym c.splice-places.ensures.free) (ap (chain ps) (sym c.in_ok-n.ensures.0) ∙ chain_after _ _ _ m g made rs sp),
+        subst (λ h. chain ps (link_of c.args.places.now.free) ≡ c.in_ok-n.n ∷ chain rs h) (sym c.splice-places.ensures.free) (ap (chain ps) (sym c.in_ok-n.ensures.0) ∙ chain_after _ _ _ m g made rs sp),
         each_place _ _ (ordered d),
       );
       same = sp.size ∙ made.same.size;
       lent = c.make_room.ensures.lent;
-      smallest = sound_smallest ps c.args.places.now.free m c.args.places.now.sound;
+      smallest = sound_smallest ps (link_of c.args.places.now.free) m c.args.places.now.sound;
     }
