@@ -4,12 +4,12 @@ use Rattle.std.proofs.lemmas.Bool.Decides.{eqb_tells, nat_tests}
 use Rattle.std.proofs.lemmas.Bool.{cases_Bool, cases_eq}
 use Rattle.order_list.specs.Order.{has, Apart, Under, Based, without, remove_refusal}
 use Rattle.order_list.specs.declared.refusal.ListRefusal.TheVariants.{NoMember, Base}
-use Rattle.chained_list.specs.Chain.{order, first, chain, Linked, Backed, Over, Rising, Sound, Strung, Spare, Ranging, Unlinked, used_of, next_of, previous_of, tag_of, mark, tagged}
+use Rattle.chained_list.specs.Chain.{Ready, order, first, chain, Linked, Backed, Over, Rising, Sound, Strung, Spare, Ranging, Unlinked, used_of, next_of, previous_of, tag_of, mark, tagged}
 use Rattle.chained_list.specs.Tags.{tags_after_remove}
 use Rattle.chained_list.specs.declared.member.Member.{Member}
 use Rattle.order_list.proofs.Lists.{has_here, has_there, has_tail, apart_from, under_has, apart_without, based_has, based_without, has_with, under_without}
 use Rattle.chained_list.proofs.Marks.{mark_same}
-use Rattle.chained_list.proofs.Places.{Bare, next_in, order_is, chain_is, used_is, used_below, sound_from, next_below, same_next, free_out}
+use Rattle.chained_list.proofs.Chains.{Bare, next_in, order_is, chain_is, used_is, used_below, sound_from, next_below, same_next, free_out}
 use Rattle.chained_list.proofs.Strings.{linked_same}
 
 -- p stands directly before m
@@ -127,11 +127,6 @@ mark_without t u m (x ∷ xs) a f =
     ]
 
 -- what links back to a member other than the base: the member before it
-pub record Ready (ps : List Member) (h m : ℕ) : Type 0 where
-  pub sound : Sound ps h
-  pub stands : true ≡ used_of ps m
-  pub inner : m ≡ 0 → ⊥
-
 pub before_it : (f g : ℕ → ℕ) (xs : List ℕ) (m : ℕ) → Based xs → Linked f xs → Backed f g xs → has xs m ≡ true → (m ≡ 0 → ⊥) → (has xs (g m) ≡ true) × (f (g m) ≡ m)
 before_it f g [] m b l back h ne = absurd b
 before_it f g (x ∷ xs) m b l back h ne =

@@ -28,6 +28,6 @@ loop-i-preserved c k lt =
     let hi : i < length ps = omega arith in
     let mk : ℕ → Member = λ x. record { used = eqb i 0; next = x; previous = 0; tag = 0 } in
     elim (cases_eq k i) [
-      | inl e ↦ simp length-set (rw e (get_or-set_same ps i _ blank hi ∙ ap mk c.free_behind.ensures ∙ ap (λ (n : ℕ). born n i) (sym c.loop-i.auto.places)))
+      | inl e ↦ simp length-set (rw (c.default.ensures.1.1.0, c.default.ensures.1.1.1, e) (get_or-set_same ps i _ blank hi ∙ ap mk c.free_behind.ensures ∙ ap (λ (n : ℕ). born n i) (sym c.loop-i.auto.places)))
       | inr ne ↦ simp length-set (get_or-set_other ps i k _ blank ne ∙ c.loop-i.invariant k (omega (arith, ne)))
     ]
