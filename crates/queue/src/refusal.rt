@@ -7,7 +7,7 @@ ghost use Rattle.queue.specs.Refusals.{number_of, booking_number_of};
 #[derive(Clone, Copy, PartialEq, Eq, Debug)]
 pub enum QueueRefusal {
     /// All places are taken.
-    Full,
+    Full = 35,
 }
 
 impl QueueRefusal {
@@ -15,9 +15,7 @@ impl QueueRefusal {
     pub fn number(self) -> u8
         ensures { result ≡ number_of self }
     {
-        match self {
-            QueueRefusal::Full => 35,
-        }
+        self as u8
     }
 }
 
@@ -26,7 +24,7 @@ impl QueueRefusal {
 #[derive(Clone, Copy, PartialEq, Eq, Debug)]
 pub enum BookingRefusal {
     /// As many bookings wait as can, and none has this day and input.
-    Full,
+    Full = 17,
 }
 
 impl BookingRefusal {
@@ -34,9 +32,7 @@ impl BookingRefusal {
     pub fn number(self) -> u8
         ensures { result ≡ booking_number_of self }
     {
-        match self {
-            BookingRefusal::Full => 17,
-        }
+        self as u8
     }
 }
 
