@@ -1,7 +1,6 @@
 -- What a checked program guarantees to whoever runs it: numbers of functions and counts of arguments are small.
-use Rattle.std.proofs.Common.{◌≡◌, ℕ, zero, suc, ◌+◌, ◌<◌, ◌≤◌, false, ltb, List, [], ◌∷◌, ◌++◌, map, length, get_or, replicate, vec_items, sym, ap, ◌∙◌, subst, arith}
-use Rattle.std.proofs.lemmas.List.{length-append, length-replicate, length-map, get_or-map, get_or_past}
-use Rattle.std.proofs.lemmas.Bool.{ltb-false}
+use Rattle.std.proofs.Common.{◌≡◌, ℕ, zero, suc, ◌+◌, ◌<◌, ◌≤◌, List, [], ◌∷◌, ◌++◌, map, length, get_or, replicate, vec_items, sym, ap, ◌∙◌, subst, arith}
+use Rattle.std.proofs.lemmas.List.{length-append, length-replicate, length-map, get_or-map}
 use Rattle.text.specs.declared.fields.Kind.{Kind}
 use Rattle.text.specs.declared.fields.Kind.TheVariants as k
 use Rattle.program.specs.declared.function.Function.{Function}
@@ -82,11 +81,6 @@ found p f fs g e l is =
       there = subst (λ (xs : List Function). f < length xs) e l;
       is = ap (λ (xs : List Function). get_or (map function_viewed xs) f no_function) (sym e) ∙ get_or-map function_viewed fs f g no_function l ∙ ap function_viewed (sym is);
     }
-
--- a function that is not there
-pub missing : (p : Program) (f : ℕ) (fs : List Function) → fs ≡ vec_items p.functions → false ≡ ltb f (length fs) → function_at (viewed p) f ≡ no_function
-missing p f fs e t =
-    get_or_past (viewed p).functions f no_function (omega (arith, ltb-false f (length fs) (sym t), length-map (vec_items p.functions) function_viewed, ap length e))
 
 function_sound : (p : Program) (f : ℕ) (g : Function) → Stands p f g → FunctionSound (viewed p) (function_viewed g)
 function_sound p f g s = subst (FunctionSound (viewed p)) s.is ((sound p).each f (omega (arith, s.there, length-map (vec_items p.functions) function_viewed)))

@@ -1,17 +1,16 @@
 -- One command after another: what the code does next is the same before a command that defines a register and behind it.
-use Rattle.std.proofs.Common.{◌≡◌, ℕ, ◌+◌, ◌<◌, ◌≤◌, List, [], ◌∷◌, ◌++◌, map, length, get_or, drop, ℤ, vec_items, sym, ap, ◌∙◌, subst, arith}
-use Rattle.std.proofs.lemmas.List.{drop_more, drop_all, length-map, get_or-map}
+use Rattle.std.proofs.Common.{◌≡◌, ℕ, ◌+◌, ◌<◌, List, [], ◌∷◌, ◌++◌, map, length, get_or, drop, ℤ, vec_items, sym, ap, ◌∙◌, subst, arith}
+use Rattle.std.proofs.lemmas.List.{drop_more, length-map, get_or-map}
 use Rattle.program.specs.declared.arith.Op.{Op}
 use Rattle.program.specs.declared.function.Command.{Command}
 use Rattle.program.specs.declared.function.Function.{Function}
 use Rattle.program.specs.declared.program.Program.{Program}
-use Rattle.program.specs.declared.value.Content.TheVariants.{Empty}
 use Rattle.program.specs.declared.value.Value.{Value}
 use Rattle.program.specs.declared.value.Value.TheVariants.{Number}
 use Rattle.program.specs.Arith.{applied}
 use Rattle.program.specs.View.{CommandView, LIT, APPLY, NEW, FunctionView, View, viewed, command_viewed, tail_viewed}
-use Rattle.program.specs.Sound.{no_function, function_at}
-use Rattle.trace.specs.Code.{Next, register, value_number, steps, next, writes, makes, finish}
+use Rattle.program.specs.Sound.{function_at}
+use Rattle.trace.specs.Code.{Next, register, value_number, steps, next, makes}
 use Rattle.code.specs.declared.running.Running.{Running}
 use Rattle.code.specs.Shown.{held, shown, Defined}
 use Rattle.code.specs.Told.{behind}
@@ -38,21 +37,9 @@ apply_on p a b x op i j v e q h d = defined_goes (viewed p) a b v d ∙ ap (λ u
 pub new_on : (p : Program) (a : Running) (x : CommandView) (f : ℕ) (args : List ℕ) → On p a x → x ≡ NEW f args → next (viewed p) (shown (viewed p) a) ≡ makes f (map (register (held a)) args) (behind (viewed p) a)
 new_on p a x f args e q = subst (On p a) q e
 
--- a function that is not there writes the empty list
-pub missing_writes : (P : View) (r : Running) → function_at P r.function ≡ no_function → writes Empty ≡ next P (shown P r)
-missing_writes P r e = sym (ap (λ f. goes f r.at (held r)) e ∙ ap (λ cs. steps cs no_function.tail (held r)) (drop_all r.at [] (omega arith)))
-
 module _ (p : Program) (r : Running) (g : Function) (s : Stands p r.function g) where
   abbrev cs : List Command
   cs = vec_items g.commands
-
-  -- behind the last command the tail decides
-  at_tail : length cs ≤ r.at → next (viewed p) (shown (viewed p) r) ≡ finish (tail_viewed g.tail) (held r)
-  at_tail l =
-      ap (λ f. goes f r.at (held r)) s.is ∙ ap (λ xs. steps xs (tail_viewed g.tail) (held r)) (drop_all r.at (map command_viewed cs) (omega (arith, length-map cs command_viewed)))
-
-  pub tail_on : (a : Running) (n : Next) → length cs ≤ r.at → n ≡ finish (tail_viewed g.tail) (held r) → next (viewed p) (shown (viewed p) r) ≡ next (viewed p) (shown (viewed p) a) → n ≡ next (viewed p) (shown (viewed p) a)
-  tail_on a n l e q = e ∙ sym (at_tail l) ∙ q
 
   module _ (x : Command) (l : r.at < length cs) (is : x ≡ get_or cs r.at x) where
     here : get_or (map command_viewed cs) r.at (command_viewed x) ≡ command_viewed x

@@ -17,7 +17,8 @@ pub enum Reader {
     Cas { empty: u8, cell: u8, args: Args },
 }
 
-/// The number that a content holds, as a value.
+/// The number that a content holds, as a value; a list counts as 0.
+// In a checked program a GET reads a number: the default is never reached, and an Option would only move it to the caller.
 fn number_of(taken: Content) -> Value
     ensures { result ≡ NumberValue (content_number taken) }
 {

@@ -15,11 +15,12 @@ use Rattle.table.specs.declared.record.Record.{Record}
 use Rattle.table.specs.declared.record.Entry.{Entry}
 use Rattle.table.specs.declared.record.Entry.TheVariants.{Blank, New}
 use Rattle.table.specs.declared.record.TooLarge.{TooLarge}
+use Rattle.table.specs.declared.table.run.Stamped.{Stamped}
 use Rattle.table.specs.declared.table.run.Written.{Written}
 use Rattle.table.specs.declared.table.Table.{Table}
 use Rattle.table.specs.Stamps.{Member}
 use Rattle.table.specs.Standing.{at}
-use Rattle.table.specs.Ran.{Open, Ending, HasBegun, HasEnded, Ran, Exceeds, Ends}
+use Rattle.table.specs.Ran.{Open, Ending, HasBegun, HasEnded, Ran, Exceeds, HasMade, ExceedsMaking, Makes, Ends}
 use Rattle.table.proofs.Lists.{moved_member, moved_length}
 use Rattle.table.proofs.Shapes.{numbers_length}
 use Rattle.table.proofs.Runs.{off, ran_new, over_behind_new}
@@ -28,6 +29,10 @@ use Rattle.table.proofs.Runs.{off, ran_new, over_behind_new}
 pub ends_over : {P : View} {c : Code} {a : Table} (d : ℕ) (b : Table) (xs ys : List ℕ) (cursor : ℕ) (r : Result Written TooLarge) → is_err r ≡ true → Exceeds P c a → Ends P c d a b xs ys cursor r
 ends_over d b xs ys cursor (Ok r) e h = let z : ◌≡◌ {A = ℕ} 0 1 = cc in absurd (omega arith)
 ends_over d b xs ys cursor (Err x) e h = h
+
+pub makes_over : {P : View} {f : ℕ} {args : Args} {a : Table} (b : Table) (xs ys : List ℕ) (cursor : ℕ) (r : Result Stamped TooLarge) → is_err r ≡ true → ExceedsMaking P f args a → Makes P f args a b xs ys cursor r
+makes_over b xs ys cursor (Ok r) e h = let z : ◌≡◌ {A = ℕ} 0 1 = cc in absurd (omega arith)
+makes_over b xs ys cursor (Err x) e h = h
 
 -- fewer records may be made than before
 pub begun_falls : {a b : Table} {xs ys : List ℕ} {cursor n m : ℕ} {e : Entry} → HasBegun a b xs ys cursor e n m → b.room < a.room
@@ -66,6 +71,22 @@ module _ {P : View} {c : Code} {d k k' : ℕ} {a a₁ b₁ b₂ : Table} {xs xs�
 module _ {P : View} {c : Code} {d : ℕ} {a a₁ b₁ b₂ : Table} {xs xs₁ ys₁ ys₂ : List ℕ} {cursor n m m₁ m₂ : ℕ} {e : Entry} {x : Content} where
   pub ended_falls : HasBegun a a₁ xs xs₁ cursor e n m → Ran P c d a₁ b₁ xs₁ ys₁ m x m₁ → HasEnded b₁ b₂ ys₁ ys₂ m₁ n x m₂ → b₂.room < a.room
   ended_falls g h z = let r₁ = g.room in let r₂ = h.room in let r₃ = z.room in omega arith
+
+-- a NEW has been made when its function has run
+module _ {P : View} {c : Code} {a a₁ b₁ b₂ : Table} {xs xs₁ ys₁ ys₂ : List ℕ} {cursor n m m₁ m₂ f : ℕ} {args : Args} {x : Content} where
+  pub has_made : HasBegun a a₁ xs xs₁ cursor (New f args Empty) n m → c ≡ enter P f (listed args) → Ran P c n a₁ b₁ xs₁ ys₁ m x m₁ → HasEnded b₁ b₂ ys₁ ys₂ m₁ n x m₂ → HasMade P f args a b₂ xs ys₂ cursor n m₂
+  has_made g e r z = record {
+    table = a₁;
+    members = xs₁;
+    start = m;
+    begun = g;
+    inner_table = b₁;
+    inner_members = ys₁;
+    last = m₁;
+    content = x;
+    ran = subst (λ (k : Code). Ran P k n a₁ b₁ xs₁ ys₁ m x m₁) e r;
+    ended = z;
+  }
 
 -- the run of what comes behind a NEW ends the run
 module _ {P : View} {c₁ : Code} {a a₁ b₁ b₂ : Table} {xs xs₁ ys₁ ys₂ : List ℕ} {cursor n m m₁ m₂ f : ℕ} {args : Args} {x : Content} where

@@ -1,5 +1,5 @@
 -- One record begun or ended, from what the table's methods and the list say.
-use Rattle.std.proofs.Common.{◌≡◌, ℕ, ◌<◌, ◌≤◌, ◌≢◌, List, [], ◌∷◌, length, get_or, refl, sym, ap, ◌∙◌, subst, inl, inr, arith, get_or-set_other, get_or-set_same}
+use Rattle.std.proofs.Common.{◌≡◌, ℕ, ◌<◌, ◌≤◌, ◌≢◌, List, [], ◌∷◌, length, get_or, sym, ap, ◌∙◌, subst, inl, inr, arith, get_or-set_other, get_or-set_same}
 use Rattle.std.proofs.lemmas.Bool.{cases_eq}
 use Rattle.program.specs.declared.value.Content.{Content}
 use Rattle.table.specs.declared.record.Record.{Record}
@@ -7,31 +7,15 @@ use Rattle.table.specs.declared.record.Entry.{Entry}
 use Rattle.table.specs.declared.record.Entry.TheVariants.{Blank}
 use Rattle.table.specs.declared.table.Table.{Table}
 use Rattle.table.specs.Records.{blank, source_of, wrote}
-use Rattle.table.specs.Rings.{Unlinked}
 use Rattle.table.specs.Stamps.{Moved}
 use Rattle.table.specs.Standing.{at, Free, Tied}
 use Rattle.table.specs.Changes.{SameInputs, Took, Puts, Enters, Owns}
 use Rattle.table.specs.Ran.{Ready, Open, Ending, Sets, OwnedBy, HasBegun, HasEnded}
-use Rattle.order_list.specs.declared.list.OrderList.{Ghosts}
-use Rattle.table.specs.declared.table.run.Run.{Run}
-use Rattle.table.specs.Runs.{Keeps}
 use Rattle.table.proofs.Lists.{moved_member, moved_length}
-use Rattle.table.proofs.Ties.{unlinked, tied_same, tied_enter, source_wrote}
+use Rattle.table.proofs.Ties.{tied_same, tied_enter, source_wrote}
 
 pub same_trans : {a b c : Table} → SameInputs a b → SameInputs b c → SameInputs a c
 same_trans h k = record { inputs = k.inputs ∙ h.inputs; noted = k.noted ∙ h.noted }
-
-pub keeps_refl : {X : Type 0} {g : Ghosts X} {a : Run X} → Keeps g a a
-keeps_refl = record { inputs = record { inputs = refl; noted = refl }; capacity = refl; program = refl; table = refl; list = refl }
-
-pub keeps_trans : {X : Type 0} {g : Ghosts X} {a b c : Run X} → Keeps g a b → Keeps g b c → Keeps g a c
-keeps_trans h k = record {
-  inputs = same_trans h.inputs k.inputs;
-  capacity = k.capacity ∙ h.capacity;
-  program = k.program ∙ h.program;
-  table = k.table ∙ h.table;
-  list = k.list ∙ h.list;
-}
 
 record_is : {xs ys : List Record} → ys ≡ xs → (q : ℕ) → get_or ys q blank ≡ get_or xs q blank
 record_is e q = ap (λ (rs : List Record). get_or rs q blank) e
@@ -70,16 +54,9 @@ module _ {a t : Table} {p : ℕ} (y : Ready a) (k : Took a t p) where
   took_tied : Tied t
   took_tied = tied_same y.tied k.readers (λ q. ap (λ (r : Record). source_of r.entry) (took_at q))
 
-  pub took_unlinked : Unlinked t.readers p
-  took_unlinked = unlinked took_tied p (ap (λ (r : Record). r.entry) (took_at p) ∙ took_blank)
-
   -- the places that are still free are others
   still_others : (i : ℕ) → i < t.spares → get_or a.spare i 0 ≢ p
   still_others i l e = y.free.apart i t.spares l last (e ∙ k.which)
-
--- there is room for a stamp where a record may be made
-pub took_room : {a t : Table} {c : ℕ} {xs : List ℕ} {m p : ℕ} → Open a c xs m → Took a t p → length xs < c
-took_room o h = let r = o.stamps in let w = h.room in omega arith
 
 -- ── a place written ──
 

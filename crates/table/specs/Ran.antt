@@ -2,17 +2,20 @@
 use Rattle.std.specs.Prelude.{◌≡◌, ℕ, suc, ◌+◌, ◌*◌, ◌<◌, ◌≤◌, false, ◌≢◌, List, [], ◌∷◌, length, Ok, Err, Result}
 use Rattle.program.specs.View.{View}
 use Rattle.program.specs.declared.value.Content.{Content}
-use Rattle.trace.specs.Code.{Code}
+use Rattle.program.specs.declared.value.Content.TheVariants.{Empty}
+use Rattle.trace.specs.Code.{Code, next, makes, enter}
 use Rattle.trace.specs.Trace.{Trace, written, places, size, after, Absent, Distinct, Among}
 use Rattle.trace.specs.Run.{Run}
 use Rattle.trace.specs.Over.{Over}
 use Rattle.order_list.specs.Order.{has}
+use Rattle.code.specs.Args.{Args}
+use Rattle.code.specs.Values.{listed}
 use Rattle.table.specs.declared.record.Record.{Record}
 use Rattle.table.specs.declared.record.Entry.{Entry}
-use Rattle.table.specs.declared.record.Entry.TheVariants.{Blank}
+use Rattle.table.specs.declared.record.Entry.TheVariants.{Blank, New}
 use Rattle.table.specs.declared.record.TooLarge.{TooLarge}
 use Rattle.table.specs.declared.table.Table.{Table}
-use Rattle.table.specs.declared.table.run.Begun.{Begun}
+use Rattle.table.specs.declared.table.run.Stamped.{Stamped}
 use Rattle.table.specs.declared.table.run.Written.{Written}
 use Rattle.table.specs.Records.{wrote}
 use Rattle.table.specs.Stamps.{Member, Moved}
@@ -60,8 +63,8 @@ pub record HasBegun (a b : Table) (xs ys : List ℕ) (cursor : ℕ) (e : Entry) 
   pub ready : Ready b
   pub moved : Moved xs cursor (m ∷ []) ys m
 
-abbrev pub Begins : Table → Table → List ℕ → List ℕ → ℕ → Entry → Result Begun TooLarge → Type 0
-Begins a b xs ys cursor e (Ok g) = HasBegun a b xs ys cursor e g.place g.start
+abbrev pub Begins : Table → Table → List ℕ → List ℕ → ℕ → Entry → Result Stamped TooLarge → Type 0
+Begins a b xs ys cursor e (Ok g) = HasBegun a b xs ys cursor e g.place g.stamp
 Begins a b xs ys cursor e (Err _) = a.room ≡ 0
 
 -- the record at n has ended, with its end m directly behind the cursor; the modifiable of a NEW holds x
@@ -103,3 +106,24 @@ pub record Exceeds (P : View) (c : Code) (a : Table) : Type 0 where
 abbrev pub Ends : View → Code → ℕ → Table → Table → List ℕ → List ℕ → ℕ → Result Written TooLarge → Type 0
 Ends P c d a b xs ys cursor (Ok w) = Ran P c d a b xs ys cursor w.content w.cursor
 Ends P c d a b xs ys cursor (Err _) = Exceeds P c a
+
+-- a NEW of f with the arguments has been made at the place n, up to its end m: it began, its function ran, and it ended
+pub record HasMade (P : View) (f : ℕ) (args : Args) (a b : Table) (xs ys : List ℕ) (cursor n m : ℕ) : Type 0 where
+  pub table : Table
+  pub members : List ℕ
+  pub start : ℕ
+  pub begun : HasBegun a table xs members cursor (New f args Empty) n start
+  pub inner_table : Table
+  pub inner_members : List ℕ
+  pub last : ℕ
+  pub content : Content
+  pub ran : Ran P (enter P f (listed args)) n table inner_table members inner_members start content last
+  pub ended : HasEnded inner_table b inner_members ys last n content m
+
+-- code that makes it begins one record more than may be made
+pub record ExceedsMaking (P : View) (f : ℕ) (args : Args) (a : Table) : Type 0 where
+  pub exceeds : (c k : Code) → next P c ≡ makes f (listed args) k → Exceeds P c a
+
+abbrev pub Makes : View → ℕ → Args → Table → Table → List ℕ → List ℕ → ℕ → Result Stamped TooLarge → Type 0
+Makes P f args a b xs ys cursor (Ok s) = HasMade P f args a b xs ys cursor s.place s.stamp
+Makes P f args a b xs ys cursor (Err _) = ExceedsMaking P f args a

@@ -4,7 +4,7 @@ ghost use Rattle.table.specs.Stamps.{Member, Moved};
 ghost use Rattle.program.specs.View.{viewed};
 ghost use Rattle.code.specs.Shown.{shown};
 ghost use Rattle.trace.specs.Code.{main};
-ghost use Rattle.table.specs.Runs.{MayRun, MayEnd, RunBegins, RunHasEnded, RunEnds, Keeps};
+ghost use Rattle.table.specs.Runs.{MayRun, MayEnd, RunBegins, RunHasEnded, RunMakes, RunEnds, Keeps};
 ghost use Rattle.table.specs.Anew.{Anew};
 
 use crate::limit::Limit;
@@ -17,11 +17,11 @@ use order_list::list::OrderList;
 use program::program::Program;
 use program::value::Content;
 
-/// A record that has begun: its place, and its start.
+/// A record at its place, and its stamp behind which the run goes on: its start when it has begun, its end when it has ended.
 #[derive(Clone, Copy)]
-pub(crate) struct Begun {
+pub(crate) struct Stamped {
     place: u16,
-    start: u16,
+    stamp: u16,
 }
 
 /// What a run wrote to its destination, and its last stamp.
@@ -55,7 +55,7 @@ fn stamp<O: OrderList>(list: &mut O, cursor: u16) -> u16
 
 impl<O: OrderList> Run<'_, O> {
     /// A record begins at a free place, with its start directly behind the cursor.
-    fn begin(&mut self, entry: Entry, cursor: u16) -> Result<Begun, TooLarge>
+    fn begin(&mut self, entry: Entry, cursor: u16) -> Result<Stamped, TooLarge>
         requires { MayRun O.OrderList self.old cursor }
         ensures begins { RunBegins O.OrderList self.old self.new cursor entry result }
         ensures keeps { Keeps O.OrderList self.old self.new }
@@ -71,7 +71,10 @@ impl<O: OrderList> Run<'_, O> {
             },
         );
         self.table.own(start, place);
-        Ok(Begun { place, start })
+        Ok(Stamped {
+            place,
+            stamp: start,
+        })
     }
 
     /// The record at a place ends, with its end directly behind the cursor; the modifiable of a NEW then holds the content.
@@ -94,7 +97,30 @@ impl<O: OrderList> Run<'_, O> {
         end
     }
 
+    /// Makes a modifiable: a NEW of the function with the arguments begins, the function runs, and the NEW ends.
+    #[cycle(run)]
+    fn make(&mut self, function: u8, args: Args, cursor: u16) -> Result<Stamped, TooLarge>
+        requires { MayRun O.OrderList self.old cursor }
+        ensures makes { RunMakes O.OrderList function args self.old self.new cursor result }
+        ensures keeps { Keeps O.OrderList self.old self.new }
+    {
+        let entry = Entry::New {
+            function,
+            args,
+            content: Content::Empty,
+        };
+        let begun = self.begin(entry, cursor)?;
+        let inside = Running::enter(function, args);
+        let wrote = self.run(inside, begun.place, begun.stamp)?;
+        let end = self.finish(begun.place, wrote.content, wrote.cursor);
+        Ok(Stamped {
+            place: begun.place,
+            stamp: end,
+        })
+    }
+
     /// Runs a function up to the write of its destination, the modifiable of the record at that place.
+    #[cycle(run)]
     fn run(&mut self, running: Running, destination: u16, cursor: u16) -> Result<Written, TooLarge>
         requires { MayRun O.OrderList self.old cursor }
         ensures ends { RunEnds O.OrderList (shown (viewed self.old.program.now) running) destination self.old self.new cursor result }
@@ -107,17 +133,9 @@ impl<O: OrderList> Run<'_, O> {
                 args,
                 rest,
             } => {
-                let entry = Entry::New {
-                    function,
-                    args,
-                    content: Content::Empty,
-                };
-                let begun = self.begin(entry, cursor)?;
-                let inner = Running::enter(function, args);
-                let wrote = self.run(inner, begun.place, begun.start)?;
-                let end = self.finish(begun.place, wrote.content, wrote.cursor);
-                let resumed = rest.resume(begun.place);
-                self.run(resumed, destination, end)
+                let made = self.make(function, args, cursor)?;
+                let resumed = rest.resume(made.place);
+                self.run(resumed, destination, made.stamp)
             }
             Next::Reads { source, reader } => {
                 let taken = self.table.content(source);
@@ -129,7 +147,7 @@ impl<O: OrderList> Run<'_, O> {
                 };
                 let begun = self.begin(entry, cursor)?;
                 let entered = reader.enter(taken);
-                let wrote = self.run(entered, destination, begun.start)?;
+                let wrote = self.run(entered, destination, begun.stamp)?;
                 let end = self.finish(begun.place, wrote.content, wrote.cursor);
                 Ok(Written {
                     content: wrote.content,
@@ -146,18 +164,10 @@ impl<O: OrderList> Run<'_, O> {
         ensures keeps { Keeps O.OrderList self.old self.new }
     {
         let args = Args::of_run(self.program);
-        let entry = Entry::New {
-            function: 0,
-            args,
-            content: Content::Empty,
-        };
-        let begun = self.begin(entry, 0)?;
-        let first = Running::enter(0, args);
-        let wrote = self.run(first, begun.place, begun.start)?;
-        let end = self.finish(begun.place, wrote.content, wrote.cursor);
+        let made = self.make(0, args, 0)?;
         Ok(Written {
             content: Content::Empty,
-            cursor: end,
+            cursor: made.stamp,
         })
     }
 }

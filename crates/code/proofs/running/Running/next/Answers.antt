@@ -1,22 +1,15 @@
 use Rattle.std.proofs.Common.{ℕ, ◌≡◌, ◌<◌, List, map, length, get_or, vec_items, sym, ap, ◌∙◌, subst, arith, w32, SFits, rules}
 use Rattle.std.proofs.lemmas.Int.{to_z-of_z}
-use Rattle.std.proofs.lemmas.Grind.{common_steps}
 use Rattle.program.specs.View.{viewed, command_viewed}
 use Rattle.program.specs.declared.function.Command.{Command}
 use Rattle.program.specs.declared.value.Value.TheVariants.{Number}
 use Rattle.trace.specs.Code.{register, makes}
 use Rattle.code.specs.Shown.{held, Defined}
 use Rattle.code.specs.Told.{behind}
-use Rattle.code.proofs.Sounds.{Stands, CommandFits, found, missing, commands_few, tails_fit}
-use Rattle.code.proofs.Steps.{On, missing_writes, tail_on, at_command, fits_here, lit_on, apply_on, new_on}
+use Rattle.code.proofs.Sounds.{Stands, CommandFits, found, commands_few, tails_fit}
+use Rattle.code.proofs.Steps.{On, at_command, fits_here, lit_on, apply_on, new_on}
 use Rattle.code.proofs.running.Running.next.Goals as goal
 use Rattle.code.proofs.running.Running.next.Goals.{After-get-in-loop-command, In-Some-get}
-
-pub returns-in_default : goal.returns-in_default
-returns-in_default c =
-    let p = c.args.program.now in
-    let r = c.args.self in
-    missing_writes (viewed p) r (missing p r.function c.deref.result.now c.deref.ensures.value c.in_default.ensures.lookup.0)
 
 -- the function that runs stands in the program
 stands : (c : goal.After-get-in-loop-command) → Stands c.args.program.now c.loop-command.code.function c.in-Some.function.now
@@ -82,10 +75,3 @@ returns-in-New c =
 
 pub finish-requires : goal.finish-requires
 finish-requires c = tails_fit c.args.program.now c.loop-command.code.function c.in-Some.function.now (stands (goal.at.finish-requires c).After-get-in-loop-command)
-
-pub returns : goal.returns
-returns c =
-    let p = c.args.program.now in
-    let g = c.in-Some.function.now in
-    let h = c.in_default-get.ensures.lookup in
-    tail_on p c.loop-command.code g (stands (goal.at.returns c).After-get-in-loop-command) c.args.self _ (grind (arith, common_steps, h.0, c.deref-in-loop-command.ensures.value)) (c.finish.ensures (viewed p)) c.loop-command.invariant.0

@@ -1,98 +1,95 @@
-use Rattle.std.proofs.Common.{sym, ◌∙◌, arith}
+use Rattle.std.proofs.Common.{sym, refl, ◌∙◌, arith}
 use Rattle.program.specs.View.{viewed}
 use Rattle.table.proofs.Runs.{ran_write, ran_read, none_made, none_read, over_inside_new, over_inside_read, new_there, read_there}
-use Rattle.table.proofs.Steps.{keeps_refl, keeps_trans, begun_open}
-use Rattle.table.proofs.Goes.{ends_over, begun_falls, may_end, may_go_on, ended_falls, ends_new, ran_at, exceeds_at, ends_at}
+use Rattle.table.proofs.Steps.{begun_open}
+use Rattle.table.proofs.Goes.{ends_over, makes_over, begun_falls, may_end, may_go_on, ended_falls, has_made, ends_new, ran_at, exceeds_at, ends_at}
 use Rattle.table.proofs.table.run.Run.+run.Goals as goal
 
-pub returns-in-Writes : goal.returns-in-Writes
-returns-in-Writes g t c = record { ends = ran_write (sym c.in-Writes.ensures) c.requires.ready; keeps = keeps_refl }
+-- ── a NEW is made ──
 
--- ── a NEW ──
+pub make-returns-in_err-begun-clause-makes : goal.make-returns-in_err-begun-clause-makes
+make-returns-in_err-begun-clause-makes g t c =
+    let b = c.in_err-begun.ensures in
+    makes_over _ _ _ _ c.from_residual.result c.from_residual.ensures.0 (record { exceeds = λ o k e. none_made e b.begins })
 
-pub returns-in_err-begun-in-Makes : goal.returns-in_err-begun-in-Makes
-returns-in_err-begun-in-Makes g t c =
-    let b = c.in_err-begun-in-Makes.ensures in
-    record { ends = ends_over _ _ _ _ _ c.from_residual.result c.from_residual.ensures.0 (none_made (sym c.in-Makes.ensures) b.begins); keeps = b.keeps }
-
-pub run-requires : goal.run-requires
-run-requires g t c κs within =
-    let b = c.in_ok-begun-in-Makes.ensures in
+pub make-run-requires : goal.make-run-requires
+make-run-requires g t c κs within =
+    let b = c.in_ok-begun.ensures in
     let h = begun_falls b.begins in
     (omega (arith, c.decreases, h), (within, begun_open c.requires b.begins b.keeps.capacity))
 
-pub returns-in_err-wrote-in-Makes : goal.returns-in_err-wrote-in-Makes
-returns-in_err-wrote-in-Makes g t c =
-    let b = c.in_ok-begun-in-Makes.ensures in
-    let r = c.in_err-wrote-in-Makes.ensures in
-    record {
-      ends = ends_over _ _ _ _ _ c.from_residual-in_err-wrote-in-Makes.result c.from_residual-in_err-wrote-in-Makes.ensures.0
-          (over_inside_new (sym c.in-Makes.ensures) b.begins (c.enter-inner.ensures.code (viewed c.args.self.now.program.now)) (exceeds_at b.keeps.program c.enter-inner.result r.ends));
-      keeps = keeps_trans b.keeps r.keeps;
-    }
+pub make-returns-in_err-wrote-clause-makes : goal.make-returns-in_err-wrote-clause-makes
+make-returns-in_err-wrote-clause-makes g t c =
+    let b = c.in_ok-begun.ensures in
+    let r = c.in_err-wrote.ensures in
+    makes_over _ _ _ _ c.from_residual-in_err-wrote.result c.from_residual-in_err-wrote.ensures.0 (record {
+      exceeds = λ o k e. over_inside_new {k = k} e b.begins (c.enter-inside.ensures.code (viewed c.args.self.now.program.now)) (exceeds_at b.keeps.program c.enter-inside.result r.ends);
+    })
 
-pub finish-end-requires : goal.finish-end-requires
-finish-end-requires g t c =
-    let b = c.in_ok-begun-in-Makes.ensures in
-    let r = c.in_ok-wrote-in-Makes.ensures in
+pub make-finish-end-requires : goal.make-finish-end-requires
+make-finish-end-requires g t c =
+    let b = c.in_ok-begun.ensures in
+    let r = c.in_ok-wrote.ensures in
     may_end c.requires b.begins new_there r.ends (r.keeps.capacity ∙ b.keeps.capacity)
 
-pub run-requires-in-Makes : goal.run-requires-in-Makes
-run-requires-in-Makes g t c κs within =
-    let b = c.in_ok-begun-in-Makes.ensures in
-    let r = c.in_ok-wrote-in-Makes.ensures in
-    let z = c.finish-end.ensures in
-    let h = ended_falls b.begins r.ends z.ended in
-    (omega (arith, c.decreases, h), (within, may_go_on c.requires b.begins r.ends z.ended (z.keeps.capacity ∙ r.keeps.capacity ∙ b.keeps.capacity)))
+pub make-returns-clause-makes : goal.make-returns-clause-makes
+make-returns-clause-makes g t c =
+    let b = c.in_ok-begun.ensures in
+    let r = c.in_ok-wrote.ensures in
+    has_made b.begins (c.enter-inside.ensures.code (viewed c.args.self.now.program.now)) (ran_at b.keeps.program c.enter-inside.result r.ends) c.finish-end.ensures.ended
 
-pub returns-in_ok-wrote-in-Makes : goal.returns-in_ok-wrote-in-Makes
-returns-in_ok-wrote-in-Makes g t c =
-    let P = viewed c.args.self.now.program.now in
-    let b = c.in_ok-begun-in-Makes.ensures in
-    let r = c.in_ok-wrote-in-Makes.ensures in
-    let z = c.finish-end.ensures in
-    let w = c.run-in-Makes.ensures in
-    let k = keeps_trans (keeps_trans b.keeps r.keeps) z.keeps in
-    record {
-      ends = ends_new _ _ _ _ _ _ (sym c.in-Makes.ensures) b.begins (c.enter-inner.ensures.code P) (ran_at b.keeps.program c.enter-inner.result r.ends) z.ended (c.resume-resumed.ensures P) c.requires.member (g.met.O.OrderList.lawful _).apart c.run-in-Makes.result (ends_at k.program c.resume-resumed.result c.args.destination c.finish-end.new.self.table.now c.run-in-Makes.new.self.table.now (g.O.OrderList.order c.finish-end.new.self.list.now) (g.O.OrderList.order c.run-in-Makes.new.self.list.now) c.finish-end.result c.run-in-Makes.result w.ends);
-      keeps = keeps_trans k w.keeps;
-    }
+-- ── code writes ──
 
--- ── a read ──
+pub run-returns-in-Writes-clause-ends : goal.run-returns-in-Writes-clause-ends
+run-returns-in-Writes-clause-ends g t c = ran_write (sym c.in-Writes.ensures) c.requires.ready
 
-pub returns-in_err-begun-in-Reads : goal.returns-in_err-begun-in-Reads
-returns-in_err-begun-in-Reads g t c =
-    let b = c.in_err-begun-in-Reads.ensures in
-    record { ends = ends_over _ _ _ _ _ c.from_residual-in_err-begun-in-Reads.result c.from_residual-in_err-begun-in-Reads.ensures.0 (none_read (sym c.in-Reads.ensures) b.begins); keeps = b.keeps }
+-- ── it makes ──
 
-pub run-requires-in-Reads : goal.run-requires-in-Reads
-run-requires-in-Reads g t c κs within =
+pub run-returns-in_err-made-in-Makes-clause-ends : goal.run-returns-in_err-made-in-Makes-clause-ends
+run-returns-in_err-made-in-Makes-clause-ends g t c =
+    ends_over _ _ _ _ _ c.from_residual.result c.from_residual.ensures.0 (c.in_err-made-in-Makes.ensures.makes.exceeds _ _ (sym c.in-Makes.ensures))
+
+pub run-run-requires : goal.run-run-requires
+run-run-requires g t c κs within =
+    let m = c.in_ok-made-in-Makes.ensures.makes in
+    let h = ended_falls m.begun m.ran m.ended in
+    (omega (arith, c.decreases, h), (within, may_go_on c.requires m.begun m.ran m.ended c.in_ok-made-in-Makes.ensures.keeps.capacity))
+
+pub run-returns-in_ok-made-in-Makes-clause-ends : goal.run-returns-in_ok-made-in-Makes-clause-ends
+run-returns-in_ok-made-in-Makes-clause-ends g t c =
+    let m = c.in_ok-made-in-Makes.ensures.makes in
+    let k = c.in_ok-made-in-Makes.ensures.keeps in
+    ends_new _ _ _ _ _ _ (sym c.in-Makes.ensures) m.begun refl m.ran m.ended (c.resume-resumed.ensures (viewed c.args.self.now.program.now)) c.requires.member (g.met.O.OrderList.lawful _).apart c.run.result
+    (ends_at k.program c.resume-resumed.result c.args.destination c.make.new.self.table.now c.run.new.self.table.now (g.O.OrderList.order c.make.new.self.list.now) (g.O.OrderList.order c.run.new.self.list.now) c.in_ok-made-in-Makes.made.stamp c.run.result c.run.ensures.ends)
+
+-- ── it reads ──
+
+pub run-returns-in_err-begun-in-Reads-clause-ends : goal.run-returns-in_err-begun-in-Reads-clause-ends
+run-returns-in_err-begun-in-Reads-clause-ends g t c =
+    ends_over _ _ _ _ _ c.from_residual-in_err-begun-in-Reads.result c.from_residual-in_err-begun-in-Reads.ensures.0 (none_read (sym c.in-Reads.ensures) c.in_err-begun-in-Reads.ensures.begins)
+
+pub run-run-requires-in-Reads : goal.run-run-requires-in-Reads
+run-run-requires-in-Reads g t c κs within =
     let b = c.in_ok-begun-in-Reads.ensures in
     let h = begun_falls b.begins in
     (omega (arith, c.decreases, h), (within, begun_open c.requires b.begins b.keeps.capacity))
 
-pub returns-in_err-wrote-in-Reads : goal.returns-in_err-wrote-in-Reads
-returns-in_err-wrote-in-Reads g t c =
+pub run-returns-in_err-wrote-in-Reads-clause-ends : goal.run-returns-in_err-wrote-in-Reads-clause-ends
+run-returns-in_err-wrote-in-Reads-clause-ends g t c =
     let b = c.in_ok-begun-in-Reads.ensures in
     let r = c.in_err-wrote-in-Reads.ensures in
-    record {
-      ends = ends_over _ _ _ _ _ c.from_residual-in_err-wrote-in-Reads.result c.from_residual-in_err-wrote-in-Reads.ensures.0
-          (over_inside_read (sym c.in-Reads.ensures) c.content-taken.ensures b.begins (c.enter-entered.ensures.code (viewed c.args.self.now.program.now)) (exceeds_at b.keeps.program c.enter-entered.result r.ends));
-      keeps = keeps_trans b.keeps r.keeps;
-    }
+    ends_over _ _ _ _ _ c.from_residual-in_err-wrote-in-Reads.result c.from_residual-in_err-wrote-in-Reads.ensures.0
+    (over_inside_read (sym c.in-Reads.ensures) c.content-taken.ensures b.begins (c.enter-entered.ensures.code (viewed c.args.self.now.program.now)) (exceeds_at b.keeps.program c.enter-entered.result r.ends))
 
-pub finish-end-requires-in-Reads : goal.finish-end-requires-in-Reads
-finish-end-requires-in-Reads g t c =
+pub run-finish-end-requires : goal.run-finish-end-requires
+run-finish-end-requires g t c =
     let b = c.in_ok-begun-in-Reads.ensures in
     let r = c.in_ok-wrote-in-Reads.ensures in
     may_end c.requires b.begins read_there r.ends (r.keeps.capacity ∙ b.keeps.capacity)
 
-pub returns-in_ok-wrote-in-Reads : goal.returns-in_ok-wrote-in-Reads
-returns-in_ok-wrote-in-Reads g t c =
+pub run-returns-in_ok-wrote-in-Reads-clause-ends : goal.run-returns-in_ok-wrote-in-Reads-clause-ends
+run-returns-in_ok-wrote-in-Reads-clause-ends g t c =
     let b = c.in_ok-begun-in-Reads.ensures in
     let r = c.in_ok-wrote-in-Reads.ensures in
-    let z = c.finish-end-in-Reads.ensures in
-    record {
-      ends = ran_read (sym c.in-Reads.ensures) c.content-taken.ensures b.begins (c.enter-entered.ensures.code (viewed c.args.self.now.program.now)) (ran_at b.keeps.program c.enter-entered.result r.ends) z.ended c.requires.member (g.met.O.OrderList.lawful _).apart;
-      keeps = keeps_trans (keeps_trans b.keeps r.keeps) z.keeps;
-    }
+    let z = c.finish-end.ensures in
+    ran_read (sym c.in-Reads.ensures) c.content-taken.ensures b.begins (c.enter-entered.ensures.code (viewed c.args.self.now.program.now)) (ran_at b.keeps.program c.enter-entered.result r.ends) z.ended c.requires.member (g.met.O.OrderList.lawful _).apart
