@@ -1,7 +1,6 @@
-ghost use Rattle.std.specs.Prelude.{◌≡◌, ◌++◌, IfOk, None};
+ghost use Rattle.std.specs.Prelude.{◌≡◌, IfOk, None};
 ghost use Rattle.text.specs.Lines.{text_fault, lines_of};
-ghost use Rattle.text.specs.Values.{values};
-ghost use Rattle.kinds.specs.Kinds.{head_line, heads_of, fault_of};
+ghost use Rattle.kinds.specs.Kinds.{heads_of, fault_of};
 ghost use Rattle.kinds.specs.Held.{heads_held, Tells};
 ghost use Rattle.kinds.specs.Laws.{Judged};
 
