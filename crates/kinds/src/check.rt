@@ -20,7 +20,7 @@ fn heads<'a>(heap: Global, text: &'a [u8]) -> Result<Vec<Fields<'a>>, AllocError
     let mut heads = Vec::new(heap);
     for line in Lines::of(text) {
         let Parts { word, fields, .. } = line.parts();
-        if let Word::Fun = word {
+        if word == Word::Fun {
             heads.push(fields)?;
         }
     }
