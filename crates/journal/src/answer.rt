@@ -1,5 +1,4 @@
-ghost use Rattle.std.specs.Prelude.{◌≡◌, ℕ, ◌<◌, ◌≤◌, List, ◌++◌, length, IfOk};
-ghost use Rattle.text.specs.Lines.{lines_in};
+ghost use Rattle.std.specs.Prelude.{◌<◌, length, IfOk};
 ghost use Rattle.journal.specs.Answers.{Answered, GoesOn};
 
 use crate::call::Call;

@@ -1,7 +1,6 @@
-ghost use Rattle.std.specs.Prelude.{◌≡◌, ◌++◌, IfOk, None};
+ghost use Rattle.std.specs.Prelude.{◌≡◌, IfOk, None};
 ghost use Rattle.text.specs.Lines.{text_fault, lines_of};
-ghost use Rattle.text.specs.Values.{values};
-ghost use Rattle.kinds.specs.Kinds.{head_line, heads_of, fault_of};
+ghost use Rattle.kinds.specs.Kinds.{heads_of, fault_of};
 ghost use Rattle.kinds.specs.Held.{heads_held, Tells};
 ghost use Rattle.kinds.specs.Laws.{Judged};
 
@@ -21,7 +20,7 @@ fn heads<'a>(heap: Global, text: &'a [u8]) -> Result<Vec<Fields<'a>>, AllocError
     let mut heads = Vec::new(heap);
     for line in Lines::of(text) {
         let Parts { word, fields, .. } = line.parts();
-        if let Word::Fun = word {
+        if word == Word::Fun {
             heads.push(fields)?;
         }
     }

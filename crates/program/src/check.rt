@@ -1,4 +1,3 @@
-ghost use Rattle.std.specs.Prelude.{◌≡◌};
 ghost use Rattle.program.specs.Checks.{Checks};
 
 use crate::program::Program;

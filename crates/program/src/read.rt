@@ -1,7 +1,7 @@
 // What a text that keeps the rules says, line by line.
-ghost use Rattle.std.specs.Prelude.{◌≡◌, true, List, [], ◌∷◌, ◌++◌, pos, IfOk, None, slice_index_or};
+ghost use Rattle.std.specs.Prelude.{◌≡◌, ◌∷◌, ◌++◌, pos, IfOk, None, slice_index_or};
 ghost use Rattle.std.specs.List.{flat_map};
-ghost use Rattle.text.specs.declared.line.Word.TheVariants.{Fun as OfFun, New as OfNew, Lit as OfLit, Put as OfPut, Nil as OfNil, Con as OfCon, Get as OfGet, Cas as OfCas};
+ghost use Rattle.text.specs.declared.line.Word.TheVariants.{Fun as OfFun};
 ghost use Rattle.text.specs.Lines.{lines_of};
 ghost use Rattle.text.specs.Reader.{left};
 ghost use Rattle.text.specs.Values.{values};
