@@ -9,7 +9,7 @@ use Rattle.chained_list.specs.Contents.{numbers_from, Cleared}
 use Rattle.chained_list.specs.declared.member.Member.{Member}
 use Rattle.order_list.proofs.Lists.{has_here, has_there, has_tail}
 use Rattle.chained_list.proofs.Standing.{each_place}
-use Rattle.chained_list.proofs.Places.{Bare, order_is, chain_is, sound_from}
+use Rattle.chained_list.proofs.Chains.{Bare, order_is, chain_is, sound_from}
 
 -- how many places are allowed
 pub allowed : (c : ℕ) → make_refusal c ≡ None → (0 < c) × (c ≤ 4096)

@@ -1,6 +1,6 @@
 -- Looking for the smallest loose block.
 use Rattle.std.proofs.Common.{◌≡◌, ℕ, zero, suc, ◌+◌, ◌*◌, ◌/◌, ◌^◌, ◌<◌, ◌≤◌, true, false, List, [], ◌∷◌, length, sym, refl, ap, ◌∙◌, subst, inl, inr, arith, pow_mono}
-use native.Mathlib.Nat.{lt-div-mul-add, pow-le-pow_right, pow-succ'}
+use native.Mathlib.Nat.{lt-div-mul-add, pow-le-pow_right}
 use Rattle.std.proofs.lemmas.Bool.Decides.{nat_tests}
 use Rattle.std.proofs.lemmas.Bool.{cases_Bool, cases_lt, le-leb, lt-leb}
 use Rattle.std.proofs.lemmas.Nat.{pow_pos, mul-le}
@@ -22,31 +22,29 @@ two_le i le = pow_mono {i = i} {j = 32} le
 pub three_le : (i : ℕ) → i ≤ 32 → 3 ^ i ≤ 1853020188851841
 three_le i le = pow-le-pow_right {n = 3} (omega arith) {i = i} {j = 32} le
 
--- the search so far: at level i, with w = 2 ^ i and q = 3 ^ i, none below was loose
-pub record Reached (ps : List Member) (m i w q : ℕ) : Type 0 where
-  pub width : w ≡ 2 ^ i
-  pub most : q ≡ 3 ^ i
-  pub none : (j : ℕ) → 4 ≤ j → j < i → loose (tags ps) (tag_of ps m) j ≡ false
+-- none of the levels below i is loose
+abbrev pub NoneBelow : List Member → ℕ → ℕ → Type 0
+NoneBelow ps m i = (j : ℕ) → 4 ≤ j → j < i → loose (tags ps) (tag_of ps m) j ≡ false
 
-module _ (ps : List Member) (h : Holds ps (order ps)) (few : length ps ≤ 4096) (m i w q : ℕ) (r : Reached ps m i w q) where
+module _ (ps : List Member) (h : Holds ps (order ps)) (few : length ps ≤ 4096) (m i w : ℕ) (width : w ≡ 2 ^ i) where
   pub wide_pos : 0 < w
-  wide_pos = omega (arith, r.width, pow_pos i)
+  wide_pos = omega (arith, width, pow_pos i)
 
   pub start_high : tag_of ps m < (tag_of ps m / w) * w + w
   start_high = lt-div-mul-add wide_pos
 
   pub w_le : i ≤ 32 → w ≤ 4294967296
-  w_le le = omega (arith, r.width, two_le i le)
+  w_le le = omega (arith, width, two_le i le)
 
-  pub q_le : i ≤ 32 → q ≤ 1853020188851841
-  q_le le = omega (arith, r.most, three_le i le)
+  pub top_le : i ≤ 32 → tag_of ps m < 4294967296 → (tag_of ps m / w) * w + w ≤ 4294967296
+  top_le high below = omega (arith, start_top i (tag_of ps m) high below, ap (λ (x : ℕ). (tag_of ps m / x) * x) width, width)
 
   module _ (f k : ℕ) (ff : FirstFrom ps ((tag_of ps m / w) * w) m f) (ek : k ≡ among (tag_of ps f) ((tag_of ps m / w) * w + w) (tags ps)) where
     s : ℕ
     s = (tag_of ps m / w) * w
 
     start_is : (tag_of ps m / w) * w ≡ start i (tag_of ps m)
-    start_is = ap (λ (x : ℕ). (tag_of ps m / x) * x) r.width
+    start_is = ap (λ (x : ℕ). (tag_of ps m / x) * x) width
 
     pub k_le : k ≤ 4096
     k_le = omega (arith, ek, among_le (tag_of ps f) ((tag_of ps m / w) * w + w) (tags ps), few_tags ps h, few)
@@ -57,54 +55,50 @@ module _ (ps : List Member) (h : Holds ps (order ps)) (few : length ps ≤ 4096)
         omega (arith, e, ff.none, ek)
 
     held_is : k ≡ held (tags ps) (tag_of ps m) i
-    held_is = count_is ∙ ap (λ (x : ℕ). among ((tag_of ps m / x) * x) ((tag_of ps m / x) * x + x) (tags ps)) r.width
+    held_is = count_is ∙ ap (λ (x : ℕ). among ((tag_of ps m / x) * x) ((tag_of ps m / x) * x + x) (tags ps)) width
 
     product : k * w ≡ held (tags ps) (tag_of ps m) i * 2 ^ i
-    product = ap (λ (x : ℕ). x * w) held_is ∙ ap (λ (x : ℕ). held (tags ps) (tag_of ps m) i * x) r.width
+    product = ap (λ (x : ℕ). x * w) held_is ∙ ap (λ (x : ℕ). held (tags ps) (tag_of ps m) i * x) width
 
-    pub is_loose : k * w ≤ q → loose (tags ps) (tag_of ps m) i ≡ true
-    is_loose le = le-leb (held (tags ps) (tag_of ps m) i * 2 ^ i) (3 ^ i) (omega (arith, product, r.most))
+    pub is_loose : k * w ≤ 3 ^ i → loose (tags ps) (tag_of ps m) i ≡ true
+    is_loose le = le-leb (held (tags ps) (tag_of ps m) i * 2 ^ i) (3 ^ i) (omega (arith, product))
 
-    pub not_loose : q < k * w → loose (tags ps) (tag_of ps m) i ≡ false
-    not_loose lt = lt-leb (held (tags ps) (tag_of ps m) i * 2 ^ i) (3 ^ i) (omega (arith, product, r.most))
+    pub not_loose : 3 ^ i < k * w → loose (tags ps) (tag_of ps m) i ≡ false
+    not_loose lt = lt-leb (held (tags ps) (tag_of ps m) i * 2 ^ i) (3 ^ i) (omega (arith, product))
 
     pub product_le : i ≤ 32 → k * w ≤ 17592186044416
     product_le le = mul-le k w 4096 4294967296 k_le (w_le le)
 
-    pub found : 4 ≤ i → i ≤ 32 → k * w ≤ q → tag_of ps m < 4294967296 → LooseBlock ps m f ((tag_of ps m / w) * w) w k
-    found low high le below =
-        let sm : Smallest (tags ps) (tag_of ps m) i = record { low = low; high = high; fits = is_loose le; none = r.none } in
+    pub found : NoneBelow ps m i → 4 ≤ i → i ≤ 32 → k * w ≤ 3 ^ i → tag_of ps m < 4294967296 → LooseBlock ps m f ((tag_of ps m / w) * w) w k
+    found none low high le below =
+        let sm : Smallest (tags ps) (tag_of ps m) i = record { low = low; high = high; fits = is_loose le; none = none } in
         let e : loose_level (tags ps) (tag_of ps m) ≡ i = level_is (tags ps) (tag_of ps m) i sm in
         record {
           smallest = subst (λ (x : ℕ). Smallest (tags ps) (tag_of ps m) x) (sym e) sm;
           begins = start_is ∙ ap (λ (x : ℕ). start x (tag_of ps m)) (sym e);
-          width = r.width ∙ ap (λ (x : ℕ). 2 ^ x) (sym e);
+          width = width ∙ ap (λ (x : ℕ). 2 ^ x) (sym e);
           ready = record {
             member = ff.member;
             low = ff.low;
             inside = omega (arith, ff.high, start_high);
             none = ff.none;
             count = count_is;
-            wide = (let c = loose_wide i k low (omega (arith, ap (λ (x : ℕ). k * x) r.width, r.most)) in omega (arith, c, r.width));
-            top = omega (arith, start_top i (tag_of ps m) high below, start_is, r.width);
+            wide = (let c = loose_wide i k low (omega (arith, ap (λ (x : ℕ). k * x) width)) in omega (arith, c, width));
+            top = top_le high below;
           };
         }
 
-    pub reached_more : q < k * w → Reached ps m (suc i) (w * 2) (q * 3)
-    reached_more lt = record {
-      width = omega (arith, r.width, pow-succ' 2 i);
-      most = omega (arith, r.most, pow-succ' 3 i);
-      none = λ j a b. elim (cases_lt j i) [
-        | inl l ↦ r.none j a l
-        | inr g ↦ let e : j ≡ i = omega arith in ap (loose (tags ps) (tag_of ps m)) e ∙ not_loose lt
-      ];
-    }
+    pub none_more : NoneBelow ps m i → 3 ^ i < k * w → NoneBelow ps m (suc i)
+    none_more none lt j a b = elim (cases_lt j i) [
+      | inl l ↦ none j a l
+      | inr g ↦ let e : j ≡ i = omega arith in ap (loose (tags ps) (tag_of ps m)) e ∙ not_loose lt
+    ]
 
 -- one level is always loose
-pub never : (ps : List Member) → Holds ps (order ps) → length ps ≤ 4096 → (m i w q : ℕ) → 32 < i → Reached ps m i w q → ⊥
-never ps h few m i w q lt r =
+pub never : (ps : List Member) → Holds ps (order ps) → length ps ≤ 4096 → (m i : ℕ) → 32 < i → NoneBelow ps m i → ⊥
+never ps h few m i lt none =
     let y = top_loose (tags ps) (tag_of ps m) (omega (arith, few_tags ps h)) in
-    let n = r.none 32 (omega arith) lt in
+    let n = none 32 (omega arith) lt in
     let z : true ≡ false = sym y ∙ n in grind arith
 
 -- the level that is found is the smallest loose one

@@ -2,7 +2,7 @@ pub mod Strings
 pub mod Spread
 pub mod Clear
 pub mod Writes
-pub mod Places
+pub mod Chains
 pub mod Marks
 pub mod Looks
 pub mod Remove

@@ -1,13 +1,14 @@
 -- What the tags and the links of a kept list tell.
-use Rattle.std.proofs.Common.{◌≡◌, ℕ, ◌<◌, true, false, ltb, List, [], ◌∷◌, Some, None, sym, ap, ◌∙◌, inl, inr, arith}
+use Rattle.std.proofs.Common.{◌≡◌, ℕ, ◌<◌, true, false, ltb, List, [], ◌∷◌, Option, Some, None, sym, ap, ◌∙◌, inl, inr, arith}
 use Rattle.std.proofs.lemmas.Bool.Decides.{eqb_tells}
 use Rattle.std.proofs.lemmas.Bool.{lt-ltb, le-ltb}
 use Rattle.order_list.specs.Order.{has, Apart, earlier, behind, NextIs, FirstIs}
 use Rattle.order_list.specs.Laws.{none_earlier}
-use Rattle.chained_list.specs.Chain.{order, first, Linked, Over, Rising, Holds, used_of, next_of, tag_of}
+use Rattle.chained_list.specs.Links.{link_of}
+use Rattle.chained_list.specs.Chain.{StandsAs, order, first, Linked, Over, Rising, Holds, used_of, next_of, tag_of}
 use Rattle.chained_list.specs.declared.member.Member.{Member}
 use Rattle.order_list.proofs.Lists.{has_none, has_tail, no_base_behind, none_behind, none_earlier_left}
-use Rattle.chained_list.proofs.Places.{used_is}
+use Rattle.chained_list.proofs.Chains.{used_is}
 
 pub over_at : (t : ℕ → ℕ) (b : ℕ) (xs : List ℕ) (k : ℕ) → Over t b xs → has xs k ≡ true → b < t k
 over_at t b [] k o h = let z : false ≡ true = h in grind arith
@@ -41,16 +42,16 @@ earlier_is t (x ∷ xs) a b ax r ha hb =
           ]
     ]
 
-pub no_left : (ps : List Member) (a b : ℕ) → Holds ps (order ps) → false ≡ used_of ps a → false ≡ earlier (order ps) a b
-no_left ps a b k e = sym (none_earlier_left (order ps) a b (sym (e ∙ used_is ps (order ps) k.strung a)))
+pub no_left : (ps : List Member) (a b : ℕ) → Holds ps (order ps) → used_of ps a ≡ false → false ≡ earlier (order ps) a b
+no_left ps a b k e = sym (none_earlier_left (order ps) a b (sym (used_is ps (order ps) k.strung a) ∙ e))
 
-pub no_right : (ps : List Member) (a b : ℕ) → Holds ps (order ps) → false ≡ used_of ps b → false ≡ earlier (order ps) a b
-no_right ps a b k e = sym (none_earlier (order ps) a b (sym (e ∙ used_is ps (order ps) k.strung b)))
+pub no_right : (ps : List Member) (a b : ℕ) → Holds ps (order ps) → used_of ps b ≡ false → false ≡ earlier (order ps) a b
+no_right ps a b k e = sym (none_earlier (order ps) a b (sym (used_is ps (order ps) k.strung b) ∙ e))
 
-pub by_tags : (ps : List Member) (a b : ℕ) → Holds ps (order ps) → true ≡ used_of ps a → true ≡ used_of ps b → ltb (tag_of ps a) (tag_of ps b) ≡ earlier (order ps) a b
-by_tags ps a b k ua ub =
+pub by_tags : (ps : List Member) (a b : ℕ) (p q : Member) → Holds ps (order ps) → StandsAs ps a (Some p) → StandsAs ps b (Some q) → ltb p.tag q.tag ≡ earlier (order ps) a b
+by_tags ps a b p q k sa sb =
     let s = k.strung in
-    earlier_is (tag_of ps) (order ps) a b s.apart k.ranging.rising (sym (ua ∙ used_is ps (order ps) s a)) (sym (ub ∙ used_is ps (order ps) s b))
+    rw (sa.1, sb.1) (earlier_is (tag_of ps) (order ps) a b s.apart k.ranging.rising (sym (used_is ps (order ps) s a) ∙ sa.0) (sym (used_is ps (order ps) s b) ∙ sb.0))
 
 -- the links
 pub links_behind : (f : ℕ → ℕ) (xs : List ℕ) (m : ℕ) → Linked f xs → has xs m ≡ true → f m ≡ first (behind xs m)
@@ -69,15 +70,16 @@ first_some : (ys : List ℕ) (n : ℕ) → n ≡ first ys → (n ≡ 0 → ⊥) 
 first_some [] n e ne = ne e
 first_some (y ∷ ys) n e ne = e
 
-pub next_none : (ps : List Member) (m : ℕ) → Holds ps (order ps) → false ≡ used_of ps m → NextIs (order ps) m None
-next_none ps m k e = let z = none_behind (order ps) m (sym (e ∙ used_is ps (order ps) k.strung m)) in rw z tt
+pub next_none : (ps : List Member) (m : ℕ) → Holds ps (order ps) → used_of ps m ≡ false → NextIs (order ps) m None
+next_none ps m k e = let z = none_behind (order ps) m (sym (used_is ps (order ps) k.strung m) ∙ e) in rw z tt
 
-pub next_last : (ps : List Member) (m : ℕ) → Holds ps (order ps) → true ≡ used_of ps m → next_of ps m ≡ 0 → NextIs (order ps) m None
-next_last ps m k e z =
+-- the link of what stands at m, as an answer
+pub next_is : (ps : List Member) (m : ℕ) (p : Member) (r : Option ℕ) → Holds ps (order ps) → StandsAs ps m (Some p) → link_of r ≡ p.next → (r ≡ Some 0 → ⊥) → NextIs (order ps) m r
+next_is ps m p r k t l i =
     let s = k.strung in
-    first_none (behind (order ps) m) (no_base_behind (order ps) m s.based s.apart) (sym (links_behind (next_of ps) (order ps) m s.linked (sym (e ∙ used_is ps (order ps) s m))) ∙ z)
-
-pub next_some : (ps : List Member) (m : ℕ) → Holds ps (order ps) → true ≡ used_of ps m → (next_of ps m ≡ 0 → ⊥) → NextIs (order ps) m (Some (next_of ps m))
-next_some ps m k e ne =
-    let s = k.strung in
-    first_some (behind (order ps) m) (next_of ps m) (links_behind (next_of ps) (order ps) m s.linked (sym (e ∙ used_is ps (order ps) s m))) ne
+    let h : has (order ps) m ≡ true = sym (used_is ps (order ps) s m) ∙ t.0 in
+    let e : p.next ≡ first (behind (order ps) m) = ap (λ (q : Member). q.next) t.1 ∙ links_behind (next_of ps) (order ps) m s.linked h in
+    go r (l ∙ e) i where
+      go : (r : Option ℕ) → link_of r ≡ first (behind (order ps) m) → (r ≡ Some 0 → ⊥) → FirstIs (behind (order ps) m) r
+      go None e i = first_none (behind (order ps) m) (no_base_behind (order ps) m k.strung.based k.strung.apart) (sym e)
+      go (Some n) e i = first_some (behind (order ps) m) n e (λ z. i (ap Some z))

@@ -7,7 +7,7 @@ use Rattle.chained_list.specs.Chain.{order, first, Linked, Over, Rising, Holds, 
 use Rattle.chained_list.specs.declared.member.Member.{Member}
 use Rattle.order_list.proofs.Lists.{has_here, has_there, has_none, has_tail, under_has, fits}
 use Rattle.chained_list.proofs.Looks.{over_at}
-use Rattle.chained_list.proofs.Places.{next_has}
+use Rattle.chained_list.proofs.Chains.{next_has}
 use Rattle.chained_list.proofs.Remove.{before_it}
 use Rattle.chained_list.proofs.Spread.{among_none, among_next}
 

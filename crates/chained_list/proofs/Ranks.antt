@@ -10,7 +10,7 @@ use Rattle.chained_list.specs.declared.member.Member.{Member}
 use Rattle.order_list.proofs.Lists.{has_here, has_there, has_tail, apart_from, under_has, fits, based_has}
 use Rattle.chained_list.proofs.Marks.{mark_insert}
 use Rattle.chained_list.proofs.Writes.{retag, retagged_more, tag_at, part_same}
-use Rattle.chained_list.proofs.Places.{chain_is, chain_first, cleared_splice, cleared_retagged, order_is, used_is, strung_splice, strung_retagged, spare_splice, spare_retagged, behind_first, sound_from, not_full, has_m, has_h, h_below}
+use Rattle.chained_list.proofs.Chains.{chain_is, chain_first, cleared_splice, cleared_retagged, order_is, used_is, strung_splice, strung_retagged, spare_splice, spare_retagged, behind_first, sound_from, not_full, has_m, has_h, h_below}
 
 -- by index
 pub has_at : (xs : List ℕ) (i : ℕ) → i < length xs → has xs (get_or xs i 0) ≡ true

@@ -3,13 +3,13 @@ use Rattle.std.proofs.Common.{◌≡◌, ℕ, ◌<◌, ◌≤◌, Bool, true, fa
 use Rattle.std.proofs.lemmas.Bool.Decides.{eqb_tells, nat_tests}
 use Rattle.std.proofs.lemmas.Bool.{cases_Bool, cases_eq}
 use Rattle.order_list.specs.Order.{has, Apart, Under, Based, without, remove_refusal}
-use Rattle.order_list.specs.declared.refusal.ListRefusal.TheVariants.{NoMember, Base}
-use Rattle.chained_list.specs.Chain.{order, first, chain, Linked, Backed, Over, Rising, Sound, Strung, Spare, Ranging, Unlinked, used_of, next_of, previous_of, tag_of, mark, tagged}
+use Rattle.order_list.specs.declared.refusal.ListRefusal.TheVariants.{NoMember}
+use Rattle.chained_list.specs.Chain.{Ready, order, first, chain, Linked, Backed, Over, Rising, Sound, Strung, Spare, Ranging, Unlinked, used_of, next_of, previous_of, tag_of, mark, tagged}
 use Rattle.chained_list.specs.Tags.{tags_after_remove}
 use Rattle.chained_list.specs.declared.member.Member.{Member}
 use Rattle.order_list.proofs.Lists.{has_here, has_there, has_tail, apart_from, under_has, apart_without, based_has, based_without, has_with, under_without}
 use Rattle.chained_list.proofs.Marks.{mark_same}
-use Rattle.chained_list.proofs.Places.{Bare, next_in, order_is, chain_is, used_is, used_below, sound_from, next_below, same_next, free_out}
+use Rattle.chained_list.proofs.Chains.{Bare, next_in, order_is, chain_is, used_is, used_below, sound_from, next_below, same_next, free_out}
 use Rattle.chained_list.proofs.Strings.{linked_same}
 
 -- p stands directly before m
@@ -127,11 +127,6 @@ mark_without t u m (x ∷ xs) a f =
     ]
 
 -- what links back to a member other than the base: the member before it
-pub record Ready (ps : List Member) (h m : ℕ) : Type 0 where
-  pub sound : Sound ps h
-  pub stands : true ≡ used_of ps m
-  pub inner : m ≡ 0 → ⊥
-
 pub before_it : (f g : ℕ → ℕ) (xs : List ℕ) (m : ℕ) → Based xs → Linked f xs → Backed f g xs → has xs m ≡ true → (m ≡ 0 → ⊥) → (has xs (g m) ≡ true) × (f (g m) ≡ m)
 before_it f g [] m b l back h ne = absurd b
 before_it f g (x ∷ xs) m b l back h ne =
@@ -141,11 +136,6 @@ before_it f g (x ∷ xs) m b l back h ne =
 
 pub refused_no_member : (ps : List Member) (h m : ℕ) → Sound ps h → false ≡ used_of ps m → remove_refusal (order ps) m ≡ Some NoMember
 refused_no_member ps h m k e = let n : has (order ps) m ≡ false = sym (e ∙ used_is ps (order ps) k.holds.strung m) in rw n
-
-pub refused_base : (ps : List Member) (h m : ℕ) → Sound ps h → true ≡ used_of ps m → m ≡ 0 → remove_refusal (order ps) m ≡ Some Base
-refused_base ps h m k e z =
-    let y : has (order ps) m ≡ true = sym (e ∙ used_is ps (order ps) k.holds.strung m) in
-    elim (eqb_tells m 0) [ inl q ↦ rw (y, q.0) | inr q ↦ absurd (q.1 z) ]
 
 module _ (ps : List Member) (h m : ℕ) (r : Ready ps h m) where
   str : Strung ps (order ps)

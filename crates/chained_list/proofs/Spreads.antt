@@ -9,7 +9,7 @@ use Rattle.chained_list.specs.Spreading.{Spreadable, SpreadOut}
 use Rattle.chained_list.specs.declared.member.Member.{Member}
 use Rattle.order_list.proofs.Lists.{has_tail}
 use Rattle.chained_list.proofs.Looks.{over_at}
-use Rattle.chained_list.proofs.Places.{used_is}
+use Rattle.chained_list.proofs.Chains.{used_is}
 use Rattle.chained_list.proofs.Writes.{retag, retagged_more, tag_at}
 use Rattle.chained_list.proofs.Neighbours.{in_tags, few_tags, in_range, next_member, next_higher, count_next, count_end}
 use Rattle.chained_list.proofs.Spread.{among_le, among_step, gap_end}

@@ -11,7 +11,7 @@ use Rattle.order_list.proofs.Lists.{has_here, has_there, has_none, has_tail, apa
 use Rattle.chained_list.proofs.Looks.{over_at}
 use Rattle.chained_list.proofs.Remove.{rising_same}
 use Rattle.chained_list.proofs.Marks.{mark_insert, tags_mark}
-use Rattle.chained_list.proofs.Places.{chain_is, chain_first, cleared_splice, cleared_retagged, order_is, strung_retagged, spare_retagged, strung_splice, spare_splice, behind_first, sound_from, not_full, has_m, has_h, h_below}
+use Rattle.chained_list.proofs.Chains.{chain_is, chain_first, cleared_splice, cleared_retagged, order_is, strung_retagged, spare_retagged, strung_splice, spare_splice, behind_first, sound_from, not_full, has_m, has_h, h_below}
 use Rattle.chained_list.proofs.Neighbours.{in_tags, next_member, next_higher, between, tag_at_tagged, behind_last, behind_next}
 use Rattle.chained_list.proofs.Spread.{start_le, start_end, climbs, keeps_below, keeps_zero, room, spread_high}
 
@@ -161,26 +161,31 @@ halfway_cond : (b : Bool) (x y : List Tagged) (m n : ℕ) → halfway (cond b x 
 halfway_cond true x y m n = refl
 halfway_cond false x y m n = refl
 
+-- room made keeps the list in order
+module _ (ps qs : List Member) (h m : ℕ) (k : Sound ps h) (rm : RoomMade ps qs m) where
+  pub same_chain : chain qs h ≡ chain ps h
+  same_chain =
+      chain_is qs (order ps) h (chain ps h) (based_has (order ps) k.holds.strung.based) (omega (arith, rm.same.size, k.some))
+      (spare_retagged ps qs (order ps) h (chain ps h) rm.same k.spare)
+
+  pub sound_made : Sound qs h
+  sound_made = record {
+    some = omega (arith, rm.same.size, k.some);
+    few = omega (arith, rm.same.size, k.few);
+    holds = rm.holds;
+    cleared = rw rm.kept (cleared_retagged ps qs (order ps) k.holds.strung rm.same k.cleared);
+    spare = rw (rm.kept, same_chain) (spare_retagged ps qs (order ps) h (chain ps h) rm.same k.spare);
+  }
+
 module _ (ps qs : List Member) (n m : ℕ) (g : Room ps n m) (rm : RoomMade ps qs m) where
+  made : Sound qs n
+  made = sound_made ps qs n m g.sound rm
+
   pub has_m' : has (order qs) m ≡ true
   has_m' = ap (λ (xs : List ℕ). has xs m) rm.kept ∙ has_m ps n m g
 
-  pub same_chain : chain qs n ≡ chain ps n
-  same_chain =
-      chain_is qs (order ps) n (chain ps n) (based_has (order ps) g.sound.holds.strung.based) (omega (arith, rm.same.size, g.sound.some))
-      (spare_retagged ps qs (order ps) n (chain ps n) rm.same g.sound.spare)
-
-  pub sound_made : Sound qs n
-  sound_made = record {
-    some = omega (arith, rm.same.size, g.sound.some);
-    few = omega (arith, rm.same.size, g.sound.few);
-    holds = rm.holds;
-    cleared = rw rm.kept (cleared_retagged ps qs (order ps) g.sound.holds.strung rm.same g.sound.cleared);
-    spare = rw (rm.kept, same_chain) (spare_retagged ps qs (order ps) n (chain ps n) rm.same g.sound.spare);
-  }
-
   pub room_made : Room qs n m
-  room_made = record { sound = sound_made; stands = g.stands ∙ sym (rm.same.marks m); some = g.some }
+  room_made = record { sound = made; stands = g.stands ∙ sym (rm.same.marks m); some = g.some }
 
   -- the tag halfway
   v_over : tag_of qs m < tag_of qs m + (behind_tag (tagged qs) m - tag_of qs m) / 2
@@ -223,19 +228,19 @@ module _ (ps qs : List Member) (n m : ℕ) (g : Room ps n m) (rm : RoomMade ps q
     }
 
     spare_after : Spare rs (insert_after (order qs) m n) (next_of qs n) (behind_first (chain qs n))
-    spare_after = spare_splice qs rs (order qs) m n _ (chain qs n) has_m' g.some sp sound_made.spare
+    spare_after = spare_splice qs rs (order qs) m n _ (chain qs n) has_m' g.some sp made.spare
 
     pub chain_after : chain ps n ≡ n ∷ chain rs (next_of qs n)
     chain_after =
         let e = chain_is rs (insert_after (order qs) m n) (next_of qs n) (behind_first (chain qs n)) (based_has (insert_after (order qs) m n) strung_after.based)
-        (omega (arith, sp.size, sound_made.some)) spare_after in
-        sym same_chain ∙ chain_first qs (order qs) n (chain qs n) sound_made.spare g.some ∙ ap (λ (ys : List ℕ). n ∷ ys) (sym e)
+        (omega (arith, sp.size, made.some)) spare_after in
+        sym (same_chain ps qs n m g.sound rm) ∙ chain_first qs (order qs) n (chain qs n) made.spare g.some ∙ ap (λ (ys : List ℕ). n ∷ ys) (sym e)
 
     pub sound_after : Sound rs (next_of qs n)
     sound_after =
         sound_from rs (insert_after (order qs) m n) (next_of qs n) (behind_first (chain qs n))
-        (omega (arith, sp.size, sound_made.some)) (omega (arith, sp.size, sound_made.few)) strung_after ranging_after
-        (cleared_splice qs rs (order qs) m n _ has_m' rm.holds.strung sp sound_made.cleared)
+        (omega (arith, sp.size, made.some)) (omega (arith, sp.size, made.few)) strung_after ranging_after
+        (cleared_splice qs rs (order qs) m n _ has_m' rm.holds.strung sp made.cleared)
         spare_after
 
     order_after : order rs ≡ insert_after (order qs) m n

@@ -1,5 +1,5 @@
 -- A linked list in member places: following the links from the base gives the order.
-use Rattle.std.specs.Prelude.{◌≡◌, ℕ, zero, suc, ◌<◌, ◌≤◌, Bool, true, false, cond, not, List, [], ◌∷◌, length, ◌==◌, ◌≢◌, slice_index, slice_index_or, slice_set}
+use Rattle.std.specs.Prelude.{◌≡◌, ℕ, zero, suc, ◌<◌, ◌≤◌, Bool, true, false, cond, not, List, [], ◌∷◌, length, Option, Some, None, ◌==◌, ◌≢◌, slice_index, slice_index_or, slice_set}
 use Rattle.order_list.specs.Refusals.{most_places}
 use Rattle.order_list.specs.Order.{has, Apart, Apart-prop, Under, Under-prop, Based, Based-prop, Lawful}
 use Rattle.chained_list.specs.declared.member.Member.{Member}
@@ -22,6 +22,11 @@ used_of ps i = (slice_index_or ps i blank).used
 
 abbrev pub tag_of : List Member → ℕ → ℕ
 tag_of ps i = (slice_index_or ps i blank).tag
+
+-- r is what place i holds, where a member stands there
+abbrev pub StandsAs : List Member → ℕ → Option Member → Type 0
+StandsAs ps i None = used_of ps i ≡ false
+StandsAs ps i (Some p) = (used_of ps i ≡ true) × (p ≡ slice_index_or ps i blank)
 
 -- the places with the link of place i to v, and with its link back to v
 abbrev pub relink : List Member → ℕ → ℕ → List Member
@@ -188,3 +193,9 @@ pub record Room (ps : List Member) (h m : ℕ) : Type 0 where
   pub sound : Sound ps h
   pub stands : true ≡ used_of ps m
   pub some : h ≡ 0 → ⊥
+
+-- m stands and is not the base, and the places are in order with the free place h first in the chain
+pub record Ready (ps : List Member) (h m : ℕ) : Type 0 where
+  pub sound : Sound ps h
+  pub stands : true ≡ used_of ps m
+  pub inner : m ≡ 0 → ⊥

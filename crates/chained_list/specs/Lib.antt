@@ -1,3 +1,4 @@
+pub mod Links
 pub mod Tags
 pub mod Chain
 pub mod Spreading

@@ -1,6 +1,5 @@
-ghost use Rattle.chained_list.specs.Chain.{Sound, Sound-prop};
-
 use crate::member::Member;
+use crate::places::Places;
 use order_list::refusal::ListRefusal;
 use std::marker::PhantomData;
 
@@ -10,11 +9,8 @@ pub mod ordered;
 /// are chained from `free` on, and tags that rise along the list tell which of two members is earlier.
 #[derive(Drop)]
 pub struct Chained<'a, L> {
-    places: &'a mut [Member],
-    free: usize,
+    places: Places<'a>,
     labels: PhantomData<L>,
-    /// The list is in order inside.
-    ghost sound: { Sound places.now free } by { Sound-prop places.now free },
 }
 
 /// No list was built: the places as they were, and why.

@@ -5,5 +5,6 @@ pub mod chained;
 pub mod labelling;
 mod links;
 pub mod member;
+pub mod places;
 pub mod renumbering;
 pub mod tag_range;

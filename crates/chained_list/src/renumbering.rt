@@ -6,8 +6,9 @@ ghost use Rattle.chained_list.specs.Tags.{ranks_after_insert};
 
 use crate::chained::Chained;
 use crate::labelling::Labelling;
-use crate::links::{splice, vacancy};
+use crate::links::splice;
 use crate::member::Member;
+use crate::places::Places;
 use order_list::refusal::ListRefusal;
 
 /// Tags that are ranks.
@@ -19,11 +20,12 @@ pub type RenumberingList<'a> = Chained<'a, Renumbering>;
 impl Labelling for Renumbering {
     ghost after = { ranks_after_insert };
 
-    fn insert_in(places: &mut [Member], free: &mut usize, m: usize) -> Result<usize, ListRefusal> {
-        let n = vacancy(places, *free, m)?;
-        *free = places[n].next as usize;
-        splice(places, m, n, 0);
-        renumber(places);
+    fn insert_in(places: &mut Places<'_>, m: usize) -> Result<usize, ListRefusal> {
+        let n = places.vacancy(m)?;
+        let members = &mut *places.members;
+        let free = splice(members, m, n, 0);
+        renumber(members);
+        places.free = free;
         Ok(n)
     }
 }
@@ -35,6 +37,7 @@ fn renumber(places: &mut [Member])
     ensures same { Retagged places.old places.new }
     ensures ranks { Ranked places.new (order places.old) (length (order places.old)) }
 {
+    // The members follow one another by their links, and not in the slice.
     let mut at = 0usize;
     for rank in 0..places.len() {
         places[at].tag = rank as u32;

@@ -2,10 +2,11 @@
 use Rattle.std.proofs.Common.{◌≡◌, ℕ, suc, Bool, true, false, cond, eqb, ◌⊎◌, List, [], ◌∷◌, length, is_some, Some, None, Option, sym, refl, ap, ◌∙◌, subst, inl, inr, arith}
 use Rattle.std.proofs.lemmas.Bool.Decides.{eqb_tells}
 use Rattle.std.proofs.lemmas.Bool.{cases_Bool}
+use Rattle.std.specs.Bool.{beq}
 use Rattle.order_list.specs.declared.alike.Twin.{Twin}
 use Rattle.order_list.specs.Order.{has, Apart, Based, earlier, behind, FirstIs, NextIs, insert_after, without, insert_refusal, remove_refusal}
 use Rattle.order_list.specs.Laws.{none_earlier}
-use Rattle.order_list.specs.Alike.{same, any, agrees, base, twin, named, forget, Same, Together, made, cleared, inserted, not_inserted, removed, not_removed, Paired, Indistinct}
+use Rattle.order_list.specs.Alike.{any, agrees, base, twin, named, forget, Same, Together, made, cleared, inserted, not_inserted, removed, not_removed, Paired, Indistinct}
 use Rattle.order_list.proofs.Lists.{has_here, has_there, has_tail, apart_from, apart_insert, based_insert, none_earlier_left, none_behind, apart_without, based_without}
 
 abbrev lefts : List Twin → List ℕ
@@ -379,11 +380,11 @@ base_alike (z ∷ zs) a b l r p q h =
           ]
     ]
 
-same_true : (a b : Bool) → a ≡ b → same a b ≡ true
-same_true true true e = refl
-same_true true false e = sym e
-same_true false true e = e
-same_true false false e = refl
+beq_true : (a b : Bool) → a ≡ b → beq a b ≡ true
+beq_true true true e = refl
+beq_true true false e = sym e
+beq_true false true e = e
+beq_true false false e = refl
 
 any_sides : (ws : List Twin) → any (lefts ws) ≡ any (rights ws)
 any_sides [] = refl
@@ -396,22 +397,13 @@ first_any (w ∷ ws) (Some n) h = refl
 first_any (w ∷ ws) None h = absurd h
 
 -- the answers of two lists, put together
-agreement : (xs ys : List ℕ) (x y : Twin) (p q u v : Bool) (r r' : Option ℕ) → p ≡ earlier xs x.left y.left → q ≡ earlier ys x.right y.right →
-    NextIs xs x.left r → NextIs ys x.right r' → u ≡ is_some r → v ≡ is_some r' → cond (same p q) (same u v) false ≡ agrees xs ys x y
-agreement xs ys x y p q u v r r' ep eq n n' eu ev =
+pub agree_then : (xs ys : List ℕ) (x y : Twin) (p q u v : Bool) (r r' : Option ℕ) → p ≡ earlier xs x.left y.left → q ≡ earlier ys x.right y.right →
+    NextIs xs x.left r → NextIs ys x.right r' → u ≡ is_some r → v ≡ is_some r' → beq p q ≡ true → beq u v ≡ agrees xs ys x y
+agree_then xs ys x y p q u v r r' ep eq n n' eu ev t =
     let f = eu ∙ first_any (behind xs x.left) r n in
     let g = ev ∙ first_any (behind ys x.right) r' n' in
-    rw (ep, eq, f, g) refl
-
-pub agree_then : (xs ys : List ℕ) (x y : Twin) (p q u v w : Bool) (r r' : Option ℕ) → p ≡ earlier xs x.left y.left → q ≡ earlier ys x.right y.right →
-    NextIs xs x.left r → NextIs ys x.right r' → u ≡ is_some r → v ≡ is_some r' → true ≡ same p q → w ≡ same u v → w ≡ agrees xs ys x y
-agree_then xs ys x y p q u v w r r' ep eq n n' eu ev t e =
-    e ∙ ap (λ (b : Bool). cond b (same u v) false) t ∙ agreement xs ys x y p q u v r r' ep eq n n' eu ev
-
-pub agree_else : (xs ys : List ℕ) (x y : Twin) (p q u v w : Bool) (r r' : Option ℕ) → p ≡ earlier xs x.left y.left → q ≡ earlier ys x.right y.right →
-    NextIs xs x.left r → NextIs ys x.right r' → u ≡ is_some r → v ≡ is_some r' → false ≡ same p q → w ≡ false → w ≡ agrees xs ys x y
-agree_else xs ys x y p q u v w r r' ep eq n n' eu ev t e =
-    e ∙ ap (λ (b : Bool). cond b (same u v) false) t ∙ agreement xs ys x y p q u v r r' ep eq n n' eu ev
+    let t' = rw (ep, eq) at t in
+    rw (f, g, t') refl
 
 module _ (c d : ℕ) (ns : List Twin) (xs ys : List ℕ) (s : Sides ns xs ys) where
   in_twins : (a b : ℕ) → named ns a b ≡ true → named s.twins a b ≡ true
@@ -470,6 +462,14 @@ module _ (c d : ℕ) (ns : List Twin) (xs ys : List ℕ) (s : Sides ns xs ys) wh
 
   pub agreed : (x y : Twin) → Same ns xs ys x.left x.right → Same ns xs ys y.left y.right → agrees xs ys x y ≡ true
   agreed x y hx hy =
-      let p = same_true _ _ (before_alike x.left x.right y.left y.right hx hy) in
-      let q = same_true _ _ (any_alike x.left x.right hx) in
-      ap (λ (b : Bool). cond b (same (any (behind xs x.left)) (any (behind ys x.right))) false) p ∙ q
+      let p = beq_true _ _ (before_alike x.left x.right y.left y.right hx hy) in
+      let q = beq_true _ _ (any_alike x.left x.right hx) in
+      ap (λ (b : Bool). cond b (beq (any (behind xs x.left)) (any (behind ys x.right))) false) p ∙ q
+
+-- an answer that is whether they agree is yes, where they were given the same calls
+pub agreed_then : (c d : ℕ) (ns : List Twin) (xs ys : List ℕ) (x y : Twin) (r : Bool) → Together c d ns xs ys → Same ns xs ys x.left x.right → Same ns xs ys y.left y.right →
+    r ≡ agrees xs ys x y → r ≡ true
+agreed_then c d ns xs ys x y r h hx hy e = e ∙ agreed 0 0 ns xs ys (in_step h) x y hx hy
+
+pub together_alike : (c d : ℕ) (ns : List Twin) (xs ys : List ℕ) → Together c d ns xs ys → Indistinct c d ns xs ys
+together_alike c d ns xs ys h = indistinct c d ns xs ys (in_step h)

@@ -1,5 +1,6 @@
 -- Two lists side by side that are given the same calls, and what cannot tell them apart.
-use Rattle.std.specs.Prelude.{◌≡◌, ℕ, Bool, true, false, cond, not, ◌⊎◌, List, [], ◌∷◌, Some, None, Ok, Err, Option, ◌==◌}
+use Rattle.std.specs.Prelude.{◌≡◌, ℕ, Bool, true, false, cond, ◌⊎◌, List, [], ◌∷◌, Some, None, Ok, Err, Option, ◌==◌}
+use Rattle.std.specs.Bool.{beq}
 use Rattle.order_list.specs.declared.refusal.ListRefusal.{ListRefusal}
 use Rattle.order_list.specs.declared.alike.Twin.{Twin}
 use Rattle.order_list.specs.Order.{has, earlier, behind, Inserted, Removed, NextIs, insert_refusal, remove_refusal}
@@ -48,10 +49,6 @@ Paired ns (Some a) None = ⊥
 Paired ns None (Some b) = ⊥
 Paired ns None None = Unit {0}
 
--- whether two answers are the same
-abbrev pub same : Bool → Bool → Bool
-same a b = cond a b (not b)
-
 -- whether there is any member
 abbrev pub any : List ℕ → Bool
 any [] = false
@@ -59,7 +56,7 @@ any (x ∷ xs) = true
 
 -- whether two lists answer alike, each by its own numbers: before of x and y, and whether next of x answers a member
 abbrev pub agrees : List ℕ → List ℕ → Twin → Twin → Bool
-agrees xs ys x y = cond (same (earlier xs x.left y.left) (earlier ys x.right y.right)) (same (any (behind xs x.left)) (any (behind ys x.right))) false
+agrees xs ys x y = cond (beq (earlier xs x.left y.left) (earlier ys x.right y.right)) (beq (any (behind xs x.left)) (any (behind ys x.right))) false
 
 -- the lists cannot be told apart: before and next answer alike, and so do the refusals of a removal and, if the capacities are
 -- the same, of an insertion

@@ -1,6 +1,6 @@
 // Lists that were given the same calls cannot be told apart.
 ghost use Rattle.std.specs.Prelude.{◌≡◌};
-ghost use Rattle.order_list.specs.Alike.{same as sameAnswer, agrees, Agreed, Alike};
+ghost use Rattle.order_list.specs.Alike.{agrees, Agreed, Alike};
 
 use crate::list::OrderList;
 
@@ -13,19 +13,12 @@ pub struct Twin {
 
 /// Whether two lists answer alike, each by its own numbers: `before` of x and y, and whether a member stands behind x.
 /// Lists that were given the same calls, and answered those alike, do; nothing tells them apart.
+#[tactic(auto, using(crate::proofs::Twins::agreed_then, crate::proofs::Twins::together_alike))]
 pub fn agree<A: OrderList, B: OrderList>(one: &A, other: &B, x: Twin, y: Twin) -> bool
     ensures answer { result ≡ agrees (A.OrderList.order one.now) (B.OrderList.order other.now) x y }
     ensures agreed { Agreed (A.OrderList.size one.now) (B.OrderList.size other.now) (A.OrderList.order one.now) (B.OrderList.order other.now) x y result }
     ensures alike { Alike (A.OrderList.size one.now) (B.OrderList.size other.now) (A.OrderList.order one.now) (B.OrderList.order other.now) }
 {
-    let first = same(one.before(x.left, y.left), other.before(x.right, y.right));
-    let second = same(one.next(x.left).is_some(), other.next(x.right).is_some());
-    first && second
-}
-
-/// Whether two answers are the same.
-fn same(a: bool, b: bool) -> bool
-    ensures { result ≡ sameAnswer a b }
-{
-    a == b
+    one.before(x.left, y.left) == other.before(x.right, y.right)
+        && one.next(x.left).is_some() == other.next(x.right).is_some()
 }

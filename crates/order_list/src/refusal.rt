@@ -6,13 +6,13 @@ ghost use Rattle.order_list.specs.Refusals.{number_of};
 #[derive(Clone, Copy, PartialEq, Eq, Debug)]
 pub enum ListRefusal {
     /// The number is no member.
-    NoMember,
+    NoMember = 31,
     /// As many members stand as there are places.
-    Full,
+    Full = 32,
     /// The base is not removed.
-    Base,
+    Base = 33,
     /// A list is built in 1 to 4,096 places.
-    Places,
+    Places = 34,
 }
 
 impl ListRefusal {
@@ -20,11 +20,6 @@ impl ListRefusal {
     pub fn number(self) -> u8
         ensures { result ≡ number_of self }
     {
-        match self {
-            ListRefusal::NoMember => 31,
-            ListRefusal::Full => 32,
-            ListRefusal::Base => 33,
-            ListRefusal::Places => 34,
-        }
+        self as u8
     }
 }

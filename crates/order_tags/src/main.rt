@@ -1,58 +1,17 @@
 // Walks of calls over both makes of order list, and the tags that stand along each list after them.
 #![tactic(auto)]
 
+use chained_list::chained::Chained;
+use chained_list::labelling::Labelling;
 use chained_list::member::Member;
-use chained_list::renumbering::RenumberingList;
-use chained_list::tag_range::TagRangeList;
+use chained_list::renumbering::Renumbering;
+use chained_list::tag_range::TagRange;
 use order_list::list::OrderList;
 use std::io;
-
-const BLANK: Member = Member {
-    used: false,
-    next: 0,
-    previous: 0,
-    tag: 0,
-};
+use std::iter::successors;
 
 /// How many tags of a list are written.
 const SHOWN: usize = 90;
-
-/// Where the calls of a walk insert, and whether some remove.
-#[derive(Clone, Copy)]
-enum Walk {
-    AtBase,
-    AtEnd,
-    ByTurns,
-    WithRemovals,
-}
-
-impl Walk {
-    fn name(self) -> &'static str {
-        match self {
-            Walk::AtBase => "at the base",
-            Walk::AtEnd => "at the end",
-            Walk::ByTurns => "by turns",
-            Walk::WithRemovals => "with removals",
-        }
-    }
-
-    /// Behind which member call i inserts, where last is the newest.
-    fn place(self, i: usize, last: usize) -> usize {
-        match self {
-            Walk::AtBase => 0,
-            Walk::AtEnd => last,
-            _ => { if i % 2 == 0 { 0 } else { last } }
-        }
-    }
-
-    /// Whether call i removes what stands behind the base.
-    fn removes(self, i: usize) -> bool {
-        match self {
-            Walk::WithRemovals => i % 5 == 4,
-            _ => false,
-        }
-    }
-}
 
 /// Removes what stands behind the base, and tells the newest member then.
 fn remove_second<O: OrderList>(list: &mut O, last: usize) -> usize {
@@ -63,112 +22,98 @@ fn remove_second<O: OrderList>(list: &mut O, last: usize) -> usize {
     if second == last { 0 } else { last }
 }
 
-/// Does call i of the walk, and tells the newest member then.
-fn step<O: OrderList>(list: &mut O, walk: Walk, i: usize, last: usize) -> usize {
-    if walk.removes(i) {
-        return remove_second(list, last);
-    }
-    match list.insert_after(walk.place(i, last)) {
-        Ok(n) => n,
-        Err(_) => last,
-    }
-}
-
-/// Does the calls of the walk.
-fn go<O: OrderList>(list: &mut O, walk: Walk, calls: usize) {
+/// Does the calls of a walk. The walk says behind which member call i inserts, where last is the newest; it removes where that is none.
+fn go<O: OrderList, W: Fn(usize, usize) -> Option<usize>>(list: &mut O, walk: &W, calls: usize)
+    requires { W.IsAlwaysCallable walk.now }
+{
     let mut last = 0;
     for i in 0..calls {
-        last = step(list, walk, i, last);
+        last = match walk(i, last) {
+            Some(m) => list.insert_after(m).unwrap_or(last),
+            None => remove_second(list, last),
+        };
     }
 }
 
-/// Builds a renumbering list in the places and does the calls of the walk.
-fn renumbering(places: &mut [Member], walk: Walk, calls: usize) {
-    if let Ok(list) = RenumberingList::new(places) {
-        let mut list = list;
+/// Builds a list of one make in the places and does the calls of the walk.
+fn walked<L: Labelling, W: Fn(usize, usize) -> Option<usize>>(
+    places: &mut [Member],
+    walk: &W,
+    calls: usize,
+)
+    requires { W.IsAlwaysCallable walk.now }
+{
+    if let Ok(mut list) = Chained::<L>::new(places) {
         go(&mut list, walk, calls);
     }
 }
 
-/// Builds a tag-range list in the places and does the calls of the walk.
-fn tag_range(places: &mut [Member], walk: Walk, calls: usize) {
-    if let Ok(list) = TagRangeList::new(places) {
-        let mut list = list;
-        go(&mut list, walk, calls);
-    }
-}
-
-/// The place behind one, or the base.
-fn behind(places: &[Member], at: usize) -> usize {
-    if at < places.len() {
-        places[at].next as usize
-    } else {
-        0
-    }
-}
-
-/// The tag in a place.
-fn tag_in(places: &[Member], at: usize) -> u32 {
-    if at < places.len() { places[at].tag } else { 0 }
-}
-
-fn fold(sum: u64, tag: u32) -> u64 {
+/// One more tag in the sum over a list's tags.
+fn with_tag(sum: u64, tag: u32) -> u64 {
     (sum % 1000000007 * 31 + tag as u64) % 1000000007
 }
 
-/// How many members there are, and a sum over their tags.
-struct Summary {
-    members: usize,
-    sum: u64,
-}
-
-fn summed(places: &[Member]) -> Summary {
-    let mut at = 0;
-    let mut sum = 0;
-    for k in 0..places.len() {
-        sum = fold(sum, tag_in(places, at));
-        at = behind(places, at);
-        if at == 0 {
-            return Summary {
-                members: k + 1,
-                sum,
-            };
-        }
-    }
-    Summary { members: 0, sum }
-}
-
 /// Writes the members' tags along the list.
-fn tell(rt: &HostRuntime, places: &[Member], walk: Walk, calls: usize) -> io::Result<()> {
-    let Summary { members, sum } = summed(places);
-    println!(rt;
-        "{} places, {calls} calls {}: {members} members, sum {sum}",
-        places.len(),
-        walk.name()
-    )?;
-    let mut at = 0;
-    for _ in 0..members.min(SHOWN) {
-        println!(rt; "{}", tag_in(places, at))?;
-        at = behind(places, at);
+fn tell(rt: &HostRuntime, places: &[Member], name: &str, calls: usize) -> io::Result<()> {
+    let count = places.len();
+    let tags: Vec<u32> = successors(places.first(), |member| places.get(member.behind()?))
+        .take(count)
+        .map(|member| member.tag)
+        .collect(rt.alloc())?;
+    let members = tags.len();
+    let sum = tags.iter().fold(0, |sum, tag| with_tag(sum, *tag));
+    println!(rt; "{count} places, {calls} calls {name}: {members} members, sum {sum}")?;
+    for tag in tags.iter().take(SHOWN) {
+        println!(rt; "{tag}")?;
     }
     Ok(())
+}
+
+/// Does one walk over both makes.
+fn both_makes<W: Fn(usize, usize) -> Option<usize>>(
+    rt: &HostRuntime,
+    places: &mut [Member],
+    calls: usize,
+    name: &str,
+    walk: W,
+) -> io::Result<()>
+    requires { W.IsAlwaysCallable walk }
+{
+    walked::<Renumbering, W>(places, &walk, calls);
+    tell(rt, places, name, calls)?;
+    walked::<TagRange, W>(places, &walk, calls);
+    tell(rt, places, name, calls)
+}
+
+/// The base and the newest member by turns.
+fn by_turns(i: usize, last: usize) -> usize {
+    if i % 2 == 0 { 0 } else { last }
 }
 
 /// Does each walk over both makes.
 fn all_walks(rt: &HostRuntime, places: &mut [Member], calls: usize) -> io::Result<()> {
-    for walk in [Walk::AtBase, Walk::AtEnd, Walk::ByTurns, Walk::WithRemovals] {
-        renumbering(places, walk, calls);
-        tell(rt, places, walk, calls)?;
-        tag_range(places, walk, calls);
-        tell(rt, places, walk, calls)?;
-    }
-    Ok(())
+    both_makes(rt, places, calls, "at the base", |_, _| Some(0))?;
+    both_makes(rt, places, calls, "at the end", |_, last| Some(last))?;
+    both_makes(
+        rt,
+        places,
+        calls,
+        "by turns",
+        |i, last| Some(by_turns(i, last)),
+    )?;
+    both_makes(rt, places, calls, "with removals", |i, last| {
+        if i % 5 == 4 {
+            None
+        } else {
+            Some(by_turns(i, last))
+        }
+    })
 }
 
 fn main(rt: HostRuntime) -> io::Result<()> {
-    all_walks(&rt, &mut [BLANK; 1], 3)?;
-    all_walks(&rt, &mut [BLANK; 2], 5)?;
-    all_walks(&rt, &mut [BLANK; 17], 40)?;
-    all_walks(&rt, &mut [BLANK; 90], 120)?;
-    all_walks(&rt, &mut [BLANK; 4096], 6000)
+    all_walks(&rt, &mut [Member::default(); 1], 3)?;
+    all_walks(&rt, &mut [Member::default(); 2], 5)?;
+    all_walks(&rt, &mut [Member::default(); 17], 40)?;
+    all_walks(&rt, &mut [Member::default(); 90], 120)?;
+    all_walks(&rt, &mut [Member::default(); 4096], 6000)
 }

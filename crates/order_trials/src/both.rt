@@ -8,24 +8,38 @@ use order_list::alike::Twin;
 use order_list::list::OrderList;
 use order_list::refusal::ListRefusal;
 
-/// What two lists made of one insertion: the new member's two numbers, a refusal, or not the same.
-#[derive(Clone, Copy)]
-pub enum Both {
-    Inserted(Twin),
+/// Why two lists did not both insert: both refused, or only one of them.
+#[derive(Clone, Copy, PartialEq, Eq, Debug)]
+pub enum NotBoth {
     Refused(ListRefusal),
     Differing,
 }
 
-/// Inserts behind one member in both lists. Lists of one capacity that were given the same calls do not differ, and go on alike.
-pub fn insert_in_both<A: OrderList, B: OrderList>(one: &mut A, other: &mut B, m: Twin) -> Both
-    ensures sizes { (A.OrderList.size one.new ≡ A.OrderList.size one.old) × (B.OrderList.size other.new ≡ B.OrderList.size other.old) }
-    ensures done { Answered (A.OrderList.size one.old) (B.OrderList.size other.old) (A.OrderList.order one.old) (B.OrderList.order other.old) m (A.OrderList.order one.new) (B.OrderList.order other.new) result }
-    ensures alike { (ns : List TwinOf) → A.OrderList.size one.old ≡ B.OrderList.size other.old → Together (A.OrderList.size one.old) (B.OrderList.size other.old) ns (A.OrderList.order one.old) (B.OrderList.order other.old) → Same ns (A.OrderList.order one.old) (B.OrderList.order other.old) m.left m.right → Continued (A.OrderList.size one.old) (B.OrderList.size other.old) ns (A.OrderList.order one.new) (B.OrderList.order other.new) result }
-{
-    match (one.insert_after(m.left), other.insert_after(m.right)) {
-        (Ok(left), Ok(right)) => Both::Inserted(Twin { left, right }),
-        (Err(refusal), Err(_)) => Both::Refused(refusal),
-        (Ok(_), Err(_)) => Both::Differing,
-        (Err(_), Ok(_)) => Both::Differing,
+/// Two lists that are given the same calls.
+#[derive(Drop)]
+pub struct Pair<'a, 'b, A, B> {
+    pub one: &'a mut A,
+    pub other: &'b mut B,
+}
+
+impl<A: OrderList, B: OrderList> Pair<'_, '_, A, B> {
+    /// Inserts behind one member in both lists, and tells the new member's two numbers. Lists of one capacity that were given the same
+    /// calls do not differ, and go on alike.
+    #[tactic(auto, using(crate::proofs::Stepping::both_done))]
+    pub fn insert_in_both(&mut self, m: Twin) -> Result<Twin, NotBoth>
+        ensures lists { (self.new.one.ghost_name ≡ self.old.one.ghost_name) × (self.new.other.ghost_name ≡ self.old.other.ghost_name) }
+        ensures sizes { (A.OrderList.size self.new.one.now ≡ A.OrderList.size self.old.one.now) × (B.OrderList.size self.new.other.now ≡ B.OrderList.size self.old.other.now) }
+        ensures done { Answered (A.OrderList.size self.old.one.now) (B.OrderList.size self.old.other.now) (A.OrderList.order self.old.one.now) (B.OrderList.order self.old.other.now) m (A.OrderList.order self.new.one.now) (B.OrderList.order self.new.other.now) result }
+        ensures alike { (ns : List TwinOf) → A.OrderList.size self.old.one.now ≡ B.OrderList.size self.old.other.now → Together (A.OrderList.size self.old.one.now) (B.OrderList.size self.old.other.now) ns (A.OrderList.order self.old.one.now) (B.OrderList.order self.old.other.now) → Same ns (A.OrderList.order self.old.one.now) (B.OrderList.order self.old.other.now) m.left m.right → Continued (A.OrderList.size self.old.one.now) (B.OrderList.size self.old.other.now) ns (A.OrderList.order self.new.one.now) (B.OrderList.order self.new.other.now) result }
+    {
+        match (
+            self.one.insert_after(m.left),
+            self.other.insert_after(m.right),
+        ) {
+            (Ok(left), Ok(right)) => Ok(Twin { left, right }),
+            (Err(refusal), Err(_)) => Err(NotBoth::Refused(refusal)),
+            (Ok(_), Err(_)) => Err(NotBoth::Differing),
+            (Err(_), Ok(_)) => Err(NotBoth::Differing),
+        }
     }
 }

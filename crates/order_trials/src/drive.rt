@@ -1,4 +1,5 @@
 // The same calls on two lists that give the same numbers, with every answer compared.
+use crate::both::Pair;
 use order_list::alike::{Twin, agree};
 use order_list::list::OrderList;
 
@@ -8,47 +9,31 @@ fn pick(i: usize, capacity: usize) -> usize {
     mixed % (capacity.min(65535) + 1)
 }
 
-/// Removes m from both lists; whether they answer alike.
-fn remove_both<A: OrderList, B: OrderList>(one: &mut A, other: &mut B, m: usize) -> bool {
-    match (one.remove(m), other.remove(m)) {
-        (Ok(_), Ok(_)) => true,
-        (Err(e), Err(f)) => e == f,
-        _ => false,
+impl<A: OrderList, B: OrderList> Pair<'_, '_, A, B> {
+    /// Does call i on both lists, mostly insertions behind the base, some elsewhere, and each fifth removes; whether they answer alike.
+    fn step(&mut self, i: usize) -> bool {
+        let m = pick(i, self.one.capacity());
+        if i % 5 == 4 {
+            return self.one.remove(m) == self.other.remove(m);
+        }
+        let m = if i % 3 == 0 { m } else { 0 };
+        self.one.insert_after(m) == self.other.insert_after(m)
     }
-}
 
-/// Inserts behind m in both lists; whether they answer alike.
-fn insert_both<A: OrderList, B: OrderList>(one: &mut A, other: &mut B, m: usize) -> bool {
-    match (one.insert_after(m), other.insert_after(m)) {
-        (Ok(n), Ok(k)) => n == k,
-        (Err(e), Err(f)) => e == f,
-        _ => false,
-    }
-}
-
-/// Does call i on both lists: mostly insertions behind the base, some elsewhere, and each fifth removes.
-fn step<A: OrderList, B: OrderList>(one: &mut A, other: &mut B, i: usize) -> bool {
-    let m = pick(i, one.capacity());
-    if i % 5 == 4 {
-        return remove_both(one, other, m);
-    }
-    insert_both(one, other, if i % 3 == 0 { m } else { 0 })
-}
-
-/// Does the calls on both lists, and says whether each answer was the same, and `before` and `next` after each call.
-pub(crate) fn drive<A: OrderList, B: OrderList>(one: &mut A, other: &mut B, calls: usize) -> bool {
-    let mut alike = true;
-    for i in 0..calls {
-        let x = pick(i / 2, one.capacity());
-        let y = pick(i / 3, one.capacity());
-        alike = step(one, other, i) && alike;
-        alike = agree(
-            one,
-            other,
+    /// Whether `before` and `next` answer the same after call i.
+    fn same_answers(&self, i: usize) -> bool {
+        let x = pick(i / 2, self.one.capacity());
+        let y = pick(i / 3, self.one.capacity());
+        agree(
+            self.one,
+            self.other,
             Twin { left: x, right: x },
             Twin { left: y, right: y },
-        ) && alike;
-        alike = one.next(x) == other.next(x) && alike;
+        ) && self.one.next(x) == self.other.next(x)
     }
-    alike
+
+    /// Does the calls on both lists, and says whether each answer was the same, and `before` and `next` after each call.
+    pub(crate) fn drive(&mut self, calls: usize) -> bool {
+        (0..calls).all(|i| self.step(i) && self.same_answers(i))
+    }
 }

@@ -4,10 +4,10 @@ use Rattle.chained_list.specs.Tags.{among}
 use Rattle.chained_list.specs.Chain.{order, tag_of, tags}
 use Rattle.chained_list.proofs.tag_range.count_to.Given as goal
 
-abbrev pub invariant-loop-first : goal.invariant-loop-first
-invariant-loop-first l =
-    (has (order l.places) l.at ≡ true) × (tag_of l.places l.first ≤ tag_of l.places l.at) × (tag_of l.places l.at < l.end) ×
-    (l.count ≡ suc (among (tag_of l.places l.first) (tag_of l.places l.at) (tags l.places)))
+abbrev pub invariant-loop-at : goal.invariant-loop-at
+invariant-loop-at l =
+    (has (order l.places.members.now) l.at ≡ true) × (tag_of l.places.members.now l.first ≤ tag_of l.places.members.now l.at) × (tag_of l.places.members.now l.at < l.end) ×
+    (l.count ≡ suc (among (tag_of l.places.members.now l.first) (tag_of l.places.members.now l.at) (tags l.places.members.now)))
 
-abbrev pub decreases-loop-first : goal.decreases-loop-first
-decreases-loop-first l = 4294967296 - tag_of l.places l.at
+abbrev pub decreases-loop-at : goal.decreases-loop-at
+decreases-loop-at l = 4294967296 - tag_of l.places.members.now l.at

@@ -6,31 +6,31 @@ use Rattle.chained_list.proofs.tag_range.spread_out.Goals as goal
 
 pub loop-j-init : goal.loop-j-init
 loop-j-init c =
-    let same : Retagged c.args.places.now c.args.places.now = record { size = refl; links = λ _. refl; backs = λ _. refl; marks = λ _. refl; others = λ _ _. refl } in
+    let same : Retagged c.args.members.now c.args.members.now = record { size = refl; links = λ _. refl; backs = λ _. refl; marks = λ _. refl; others = λ _ _. refl } in
     (same, λ _. begins _ c.requires.holds _ _ _ _ c.requires.ready 0 refl, λ k _. starts _ c.requires.holds _ _ _ _ c.requires.ready k)
 
-pub overflow_cast-places : goal.overflow_cast-places
-overflow_cast-places c = omega (arith, small _ c.requires.holds _ _ _ _ c.requires.ready c.loop-j.j c.loop-j-test.true)
+pub overflow_cast-members : goal.overflow_cast-members
+overflow_cast-members c = omega (arith, small _ c.requires.holds _ _ _ _ c.requires.ready c.loop-j.j c.loop-j-test.true)
 
-pub offset_bounds-places-at : goal.offset_bounds-places-at
-offset_bounds-places-at c =
+pub offset_bounds-members-at : goal.offset_bounds-members-at
+offset_bounds-members-at c =
     omega (arith, c.requires.few, in_range _ c.requires.holds c.loop-j.at (c.loop-j.invariant.1 c.loop-j-test.true).member)
 
-pub bounds-places-at : goal.bounds-places-at
-bounds-places-at c =
-    omega (arith, c.loop-j.auto.places, in_range _ c.requires.holds c.loop-j.at (c.loop-j.invariant.1 c.loop-j-test.true).member)
+pub bounds-members-at : goal.bounds-members-at
+bounds-members-at c =
+    omega (arith, c.loop-j.auto.members, in_range _ c.requires.holds c.loop-j.at (c.loop-j.invariant.1 c.loop-j-test.true).member)
 
 pub loop-j-preserved : goal.loop-j-preserved
 loop-j-preserved c =
     let i = c.loop-j.invariant in
     let lt = c.loop-j-test.true in
     rw add-one (
-      same_more _ c.requires.holds _ _ _ _ c.requires.ready c.loop-j.places c.loop-j.j c.loop-j.at lt i.0 (i.1 lt) i.2,
-      (λ l. at_more _ c.requires.holds _ _ _ _ c.requires.ready c.loop-j.places c.loop-j.j c.loop-j.at lt i.0 (i.1 lt) i.2 l),
-      tags_more _ c.requires.holds _ _ _ _ c.requires.ready c.loop-j.places c.loop-j.j c.loop-j.at lt i.0 (i.1 lt) i.2,
+      same_more _ c.requires.holds _ _ _ _ c.requires.ready c.loop-j.members c.loop-j.j c.loop-j.at lt i.0 (i.1 lt) i.2,
+      (λ l. at_more _ c.requires.holds _ _ _ _ c.requires.ready c.loop-j.members c.loop-j.j c.loop-j.at lt i.0 (i.1 lt) i.2 l),
+      tags_more _ c.requires.holds _ _ _ _ c.requires.ready c.loop-j.members c.loop-j.j c.loop-j.at lt i.0 (i.1 lt) i.2,
     )
 
 pub returns : goal.returns
 returns c =
     let i = c.loop-j.invariant in
-    ends _ c.requires.holds _ _ _ _ c.requires.ready c.loop-j.places c.loop-j.j (omega arith) i.0 i.2
+    ends _ c.requires.holds _ _ _ _ c.requires.ready c.loop-j.members c.loop-j.j (omega arith) i.0 i.2

@@ -6,7 +6,7 @@ use Rattle.chained_list.proofs.tag_range.spread_out.Given as goal
 
 abbrev pub invariant-loop-j : goal.invariant-loop-j
 invariant-loop-j l =
-    Retagged l.initial.places l.places ×
-    (l.j < l.block.count → AtBlock l.initial.places l.block.start l.block.width l.j l.at) ×
-    ((k : ℕ) → has (order l.initial.places) k ≡ true →
-    tag_of l.places k ≡ partly l.block.start l.block.width (tags l.initial.places) l.j (tag_of l.initial.places k))
+    Retagged l.initial.members l.members ×
+    (l.j < l.block.count → AtBlock l.initial.members l.block.start l.block.width l.j l.at) ×
+    ((k : ℕ) → has (order l.initial.members) k ≡ true →
+    tag_of l.members k ≡ partly l.block.start l.block.width (tags l.initial.members) l.j (tag_of l.initial.members k))

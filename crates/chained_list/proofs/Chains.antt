@@ -1,11 +1,14 @@
 -- Lists strung through member places, and the free places.
-use Rattle.std.proofs.Common.{◌≡◌, ℕ, suc, ◌<◌, ◌≤◌, Bool, true, false, cond, not, eqb, ltb, ◌⊎◌, List, [], ◌∷◌, length, Some, None, sym, refl, ap, ◌∙◌, inl, inr, arith}
+use Rattle.std.proofs.Common.{◌≡◌, ℕ, suc, ◌<◌, ◌≤◌, Bool, true, false, cond, not, eqb, ltb, ◌⊎◌, List, [], ◌∷◌, length, Option, Some, None, is_some, get_or, sym, refl, ap, ◌∙◌, subst, inl, inr, arith}
 use Rattle.std.proofs.lemmas.List.{get_or_past}
 use Rattle.std.proofs.lemmas.Bool.Decides.{eqb_tells}
 use Rattle.std.proofs.lemmas.Bool.{cases_Bool, cases_eq, cases_lt, not-false, not-true, lt-ltb, le-ltb, eq-eqb, ne_eqb}
 use Rattle.order_list.specs.declared.refusal.ListRefusal.TheVariants.{NoMember, Full}
 use Rattle.order_list.specs.Order.{has, insert_after, insert_refusal}
-use Rattle.chained_list.specs.Chain.{walk, chain, order, Linked, Backed, Sound, Room, Strung, Spare, Ranging, Spliced, Retagged, blank, used_of, next_of, previous_of, tag_of}
+use Rattle.std.specs.Option.{ok_or}
+use Rattle.chained_list.specs.Links.{link_of}
+use Rattle.chained_list.specs.Contents.{Vacant}
+use Rattle.chained_list.specs.Chain.{StandsAs, walk, chain, order, Linked, Backed, Sound, Room, Strung, Spare, Ranging, Spliced, Retagged, blank, used_of, next_of, previous_of, tag_of}
 use Rattle.chained_list.specs.declared.member.Member.{Member}
 use Rattle.order_list.proofs.Lists.{has_here, has_there, has_none, has_tail, apart_from, has_insert, apart_insert, under_insert, under_has, fits, filled, based_has, based_insert}
 use Rattle.chained_list.proofs.Strings.{linked_insert, linked_same, walk_is}
@@ -39,6 +42,14 @@ used_below ps m e =
       | inl lt ↦ lt
       | inr le ↦ let z : true ≡ false = e ∙ ap (λ (p : Member). p.used) (get_or_past ps m blank le) in grind arith
     ]
+
+-- what is told of a place that stands, and of one that does not
+pub stood : (ps : List Member) (m : ℕ) (o : Option Member) (p : Member) → o ≡ Some p → StandsAs ps m o → (true ≡ used_of ps m) × (p ≡ get_or ps m blank)
+stood ps m o p e s = let t = subst (StandsAs ps m) e s in (sym t.0, t.1)
+
+pub not_stood : (ps : List Member) (m : ℕ) (o : Option Member) → false ≡ is_some o → StandsAs ps m o → false ≡ used_of ps m
+not_stood ps m None e s = sym s
+not_stood ps m (Some p) e s = let z : false ≡ true = e in absurd (grind arith)
 
 -- what a member links to is a member, or none
 pub next_has : (f : ℕ → ℕ) (xs : List ℕ) (m : ℕ) → Linked f xs → has xs m ≡ true → (f m ≡ 0) ⊎ (has xs (f m) ≡ true)
@@ -262,3 +273,8 @@ module _ (ps : List Member) (h m : ℕ) (r : Room ps h m) where
       let lt : suc (length (order ps)) ≤ length ps = fits (length ps) (h ∷ order ps) (has_h, str.apart) (h_below, str.under) in
       let f : ltb (length (order ps)) (length ps) ≡ true = lt-ltb (length (order ps)) (length ps) lt in
       rw (has_m, f)
+
+-- the answer of a vacancy where m stands
+pub vacant : (ps : List Member) (free : Option ℕ) (m : ℕ) → Sound ps (link_of free) → (free ≡ Some 0 → ⊥) → true ≡ used_of ps m → Vacant ps (link_of free) m (ok_or free Full)
+vacant ps None m k i u = refused_full ps 0 m k u refl
+vacant ps (Some n) m k i u = (refl, record { sound = k; stands = u; some = λ z. i (ap Some z) })
