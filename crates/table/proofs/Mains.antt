@@ -60,6 +60,15 @@ ran_main {P} {n = n} {args = args} e g e₁ r z mem ay =
 -- ── in a table in which nothing stood ──
 
 module _ {L c : ℕ} {a a₁ : Table} {xs : List ℕ} (st : Standing L c a₁ xs nothing) (room : a₁.room ≡ L) (same : SameInputs a a₁) where
+  pub may_run : Open a₁ c xs 0
+  may_run =
+      let l = ap length st.listed in let n = st.counted in let w = st.wide in
+      record {
+        ready = record { free = st.free; tied = st.tied };
+        member = record { pre = []; post = []; split = st.listed };
+        stamps = omega arith;
+      }
+
   store_initial : store a₁ ≡ initial a.inputs
   store_initial = stores (λ k. ap (λ (is : List InputContent). content_of_input (get_or is k input.Empty)) same.inputs) (λ n. ap content_inside (st.only n tt))
 

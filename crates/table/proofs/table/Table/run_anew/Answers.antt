@@ -3,6 +3,11 @@ use Rattle.table.specs.Anew.{Cleared}
 use Rattle.table.proofs.Mains.{may_run, ran_anew, exceeded}
 use Rattle.table.proofs.table.Table.run_anew.Goals as goal
 
+pub run_main-outcome-requires : goal.run_main-outcome-requires
+run_main-outcome-requires g c =
+    let h = c.clear.ensures.cleared in
+    may_run h.holding.standing h.room h.same
+
 pub returns-in-Ok-clause-anew : goal.returns-in-Ok-clause-anew
 returns-in-Ok-clause-anew g c =
     let r = c.in-Ok.ensures in
