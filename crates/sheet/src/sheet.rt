@@ -1,4 +1,4 @@
-ghost use Rattle.std.specs.Prelude.{◌+◌, ◌*◌, ◌≤◌};
+ghost use Rattle.table.specs.Anew.{HasRoom};
 
 use order_list::list::OrderList;
 use program::program::Program;
@@ -26,5 +26,5 @@ pub struct Sheet<O: OrderList> {
     state: State,
     table: Table,
     list: O,
-    ghost room: { 4 * limit.value + 1 ≤ O.OrderList.size list },
+    ghost room: { HasRoom O.OrderList limit.value list },
 }

@@ -13,6 +13,10 @@ use Rattle.table.specs.declared.table.Table.{Table}
 use Rattle.table.specs.Changes.{SameInputs}
 use Rattle.table.specs.Standing.{Standing}
 
+-- the list x, whose meaning is g, has room for the base and the stamps of the records in 2L places
+abbrev pub HasRoom : {X : Type 0} → Ghosts X → ℕ → X → Type 0
+HasRoom g L x = 4 * L + 1 ≤ g.size x
+
 -- the trace of a sheet on which nothing stands
 abbrev pub nothing : Trace
 nothing = write content.Empty

@@ -1,11 +1,12 @@
 // How much a table holds.
 use crate::limit::methods::MOST_RECORDS;
+use shape::standing;
 
 /// The record places: two for each record that the largest limit allows.
 pub(crate) const PLACES: usize = 2 * MOST_RECORDS as usize;
 
 /// The most inputs of a program.
-pub(crate) const INPUTS: usize = 256;
+pub(crate) const INPUTS: usize = standing::INPUTS;
 
 /// The stamps are members of an order list, which has 4,096 at most.
 pub(crate) const STAMPS: usize = 4096;

@@ -1,7 +1,7 @@
 ghost use Rattle.std.specs.Prelude.{◌≡◌};
 ghost use Rattle.text.specs.First.{answer};
 ghost use Rattle.text.specs.Lines.{text_fault};
-ghost use Rattle.text.specs.Laws.{FieldsAreColumns, ColumnsReadBack, TextsAreRendered, LinesReadBack};
+ghost use Rattle.text.specs.Laws.{FieldsAreColumns, ColumnsReadBack, WordsReadBack, WordsAreSpelled, TextsAreRendered, LinesReadBack, RenderedOnce};
 
 use crate::line::LineFault;
 use crate::lines::Lines;
@@ -28,8 +28,11 @@ pub fn check_lines(text: &[u8]) -> Result<(), LineFault>
     ensures value { result ≡ answer tt (text_fault text.now) }
     ensures fields { FieldsAreColumns }
     ensures columns { ColumnsReadBack }
+    ensures words { WordsReadBack }
+    ensures letters { WordsAreSpelled }
     ensures texts { TextsAreRendered }
     ensures lines { LinesReadBack }
+    ensures once { RenderedOnce }
 {
     check_each(text)
 }

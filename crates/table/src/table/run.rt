@@ -5,7 +5,7 @@ ghost use Rattle.program.specs.View.{viewed};
 ghost use Rattle.code.specs.Shown.{shown};
 ghost use Rattle.trace.specs.Code.{main};
 ghost use Rattle.table.specs.Runs.{MayRun, MayEnd, RunBegins, RunHasEnded, RunMakes, RunEnds, Keeps};
-ghost use Rattle.table.specs.Anew.{Anew};
+ghost use Rattle.table.specs.Anew.{Anew, HasRoom};
 
 use crate::limit::Limit;
 use crate::record::{Entry, Record, TooLarge};
@@ -180,7 +180,7 @@ impl Table {
         program: &Program,
         limit: Limit,
     ) -> Result<u16, TooLarge>
-        requires { 4 * limit.value + 1 ≤ O.OrderList.size list.old }
+        requires { HasRoom O.OrderList limit.value list.old }
         ensures anew { Anew O.OrderList (viewed program.now) limit.value self.old self.new list.new result }
         ensures same { O.OrderList.size list.new ≡ O.OrderList.size list.old }
     {

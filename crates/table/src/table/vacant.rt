@@ -2,7 +2,7 @@
 ghost use Rattle.std.specs.Prelude.{◌≡◌, ℕ, ◌+◌, ◌*◌, ◌<◌, ◌≤◌, cond, nat_lt, pos, slice_index};
 ghost use Rattle.program.specs.View.{viewed};
 ghost use Rattle.program.specs.declared.value.InputContent.TheVariants.{Number, Empty};
-ghost use Rattle.table.specs.Anew.{Vacant, Zeros, Cleared};
+ghost use Rattle.table.specs.Anew.{Vacant, Zeros, Cleared, HasRoom};
 
 use crate::limit::Limit;
 use crate::readers::Readers;
@@ -68,7 +68,7 @@ impl Table {
 
     /// Takes all records out, and their stamps; as many may then be made as the limit says.
     pub(crate) fn clear<O: OrderList>(&mut self, list: &mut O, limit: Limit)
-        requires { 4 * limit.value + 1 ≤ O.OrderList.size list.old }
+        requires { HasRoom O.OrderList limit.value list.old }
         ensures cleared { Cleared O.OrderList limit.value self.old self.new list.new }
         ensures same { O.OrderList.size list.new ≡ O.OrderList.size list.old }
     {
