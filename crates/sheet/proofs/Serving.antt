@@ -5,7 +5,7 @@ use Rattle.std.proofs.lemmas.Bool.Decides.{eqb_tells}
 use Rattle.trace.specs.Trace.{Trace}
 use Rattle.history.specs.Calls.{settled, unsettled, Sort, resting, opened, Call, Refusal, Answer, refused}
 use Rattle.program.specs.declared.value.InputContent.{InputContent}
-use Rattle.trace.proofs.Computed.{both_true}
+use Rattle.std.proofs.lemmas.Bool.{and_parts}
 use Rattle.table.proofs.Lists.{differ}
 use Rattle.history.specs.Book.{Book, bears, refusal, same_sort, sort_of}
 use Rattle.history.specs.Sheet.{Does, RefusedOr}
@@ -69,5 +69,5 @@ state_is Open Settled h = absurd (differ (sym h))
 state_is Open Open h = refl
 
 pub takes_both : {X : Type 0} {g : Ghosts X} (s : Sheet X g) (n : ℕ) (k : State) → takes_pass s n k ≡ true → (n ≡ s.number) × (s.state ≡ k)
-takes_both s n k h = let b = both_true (eqb n s.number) (same_state k s.state) h in
+takes_both s n k h = let b = and_parts (eqb n s.number) (same_state k s.state) h in
     (elim (eqb_tells n s.number) [ inl e ↦ e.1 | inr e ↦ absurd (differ (sym b.0 ∙ e.0)) ], state_is k s.state b.1)
