@@ -16,6 +16,7 @@ fn rise<Q: Order>(order: &Q, heap: &mut [Q::Element])
         → Heaped (Q.precedes order.now) heap.new }
 {
     let mut place = heap.len() - 1;
+    // Along one path of the heap, from a place to its parent: there is no run of places to go over.
     while 0 < place {
         let parent = (place - 1) / 2;
         if !order.before(&heap[place], &heap[parent]) {
@@ -51,6 +52,7 @@ fn sink<Q: Order>(order: &Q, heap: &mut [Q::Element])
 {
     let n = heap.len();
     let mut place = 0;
+    // Along one path of the heap, from a place to a child.
     while place < n / 2 {
         let child = foremost_child(order, heap, place);
         if !order.before(&heap[child], &heap[place]) {

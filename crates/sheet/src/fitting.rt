@@ -41,6 +41,7 @@ fn right_cell(program: &Program, content: InputContent) -> bool
 }
 
 /// Whether the content fits the input, or why not.
+// A struct of a program, an input and a content would be made for this one call.
 pub(crate) fn fit(program: &Program, input: u16, content: InputContent) -> Result<(), Refusal>
     ensures { unfit_told result ≡ unfit (made_with (viewed program.now)) input content }
 {

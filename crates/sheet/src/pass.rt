@@ -1,5 +1,5 @@
 // Passes: who holds one may make the calls that its sort allows. A pass bears the number of its sheet. It is moved, and only a
-// call makes one out of another.
+// call makes one out of another. The three sorts are three types, so that a call with a pass of another sort does not build.
 ghost use Rattle.std.specs.Prelude.{◌≡◌};
 
 /// The pass of a sheet that is settled: its result and its lines may be read.

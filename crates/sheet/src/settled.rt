@@ -17,6 +17,7 @@ pub enum Mark {
 
 impl Mark {
     /// The number by which the mark is told.
+    // A cast to the discriminant names its enum, so this one has a method of its own, as the refusals have.
     pub fn number(self) -> u8
         ensures { result ≡ mark_of self }
     {

@@ -16,6 +16,7 @@ pub struct Table {
     /// What stands at each place.
     records: [Record; PLACES],
     /// What each input holds, and what it held when the sheet was opened.
+    // Two arrays, since all inputs are noted and put back at once.
     inputs: [InputContent; INPUTS],
     noted: [InputContent; INPUTS],
     /// The place whose record has a stamp.

@@ -28,7 +28,8 @@ pub enum Word {
     Cas,
 }
 
-// A line of a text, by its form, with its number; its fields are parts of the text.
+// A line of a text, by its form, with its number; its fields are parts of the text. Each form has them in it, so that a
+// match on the form has them at hand.
 #[derive(Clone, Copy)]
 pub enum Line<'a> {
     Inputs {

@@ -130,6 +130,7 @@ impl Running {
             return Next::Writes(Content::Empty);
         };
         let mut code = self;
+        // The number of the command at hand is what a function that waits keeps, so the loop goes by it.
         while let Some(command) = function.commands.get(code.at as usize) {
             match command {
                 Command::Lit { value } => code.define(Value::Number(*value)),

@@ -38,6 +38,7 @@ impl Table {
     }
 
     /// What stands at a place; behind the last it is blank.
+    // Every place of a name or a read is there; an Option would only move that to each caller.
     pub fn record(&self, place: u16) -> Record
         ensures { result ≡ at self.now place }
     {
@@ -48,6 +49,7 @@ impl Table {
     }
 
     /// The place whose record has a stamp; behind the last it is 0.
+    // Every stamp is there; an Option would only move that to each caller.
     pub fn owner(&self, stamp: u16) -> u16
         ensures { result ≡ owner self.now stamp }
     {
@@ -55,6 +57,7 @@ impl Table {
     }
 
     /// Puts a record at its place.
+    // Names and records keep places as plain numbers, so a type of places below 1024 would be unwrapped and wrapped at each use.
     pub(crate) fn put(&mut self, place: u16, record: Record)
         requires { place < 1024 }
         ensures puts { Puts self.old self.new place «record» }
