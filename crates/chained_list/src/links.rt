@@ -1,4 +1,5 @@
-// What both makes do in the lent member places: one chain of links.
+// What both makes do in the lent member places: one chain of links. These take the lent slice itself, since links are changed
+// in the midst of a call, where the list is not in order.
 ghost use Rattle.std.specs.Prelude.{◌≡◌, suc, ◌+◌, ◌<◌, ◌≤◌, true, false, [], ◌∷◌, length, if◌then◌else◌, Some, None, MatchResult, ◌≢◌, nat_eq};
 ghost use Rattle.order_list.specs.Refusals.{most_places};
 ghost use Rattle.order_list.specs.Order.{make_refusal};
@@ -7,10 +8,8 @@ ghost use Rattle.chained_list.specs.Contents.{Cleared};
 ghost use Rattle.chained_list.specs.Chain.{Sound, order, next_of, previous_of, link_both, Room, Ready, Spliced, Unlinked};
 
 use crate::member::Member;
+use order_list::list::MOST_PLACES;
 use order_list::refusal::ListRefusal;
-
-/// The most member places of a list.
-const MOST_PLACES: usize = 4096;
 
 /// Tests how many member places there are, before a list is built in them.
 pub(crate) fn test_places(count: usize) -> Result<(), ListRefusal>

@@ -17,6 +17,7 @@ pub struct Places<'a> {
     /// The first free place.
     pub free: Option<usize>,
     /// The base is not free.
+    // A NonZeroUsize would say it too, but each use of the place is as an index, which that is not.
     pub ghost inner: { free ≢ Some 0 },
     /// The list is in order inside.
     pub ghost sound: { Sound members.now (link_of free) } by { Sound-prop members.now (link_of free) },

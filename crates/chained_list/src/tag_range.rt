@@ -33,6 +33,7 @@ const HIGHEST_LEVEL: u32 = 32;
 impl Labelling for TagRange {
     ghost after = { tags_after_insert };
 
+    // A method that promises one thing more says all that its trait has it say.
     fn insert_in(places: &mut Places<'_>, m: usize) -> Result<usize, ListRefusal>
         ensures done { Inserted (length places.old.members.now) (order places.old.members.now) m result (order places.new.members.now) }
         ensures placed { InsertedPlaces tags_after_insert places.old.members.now (link_of places.old.free) m result places.new.members.now (link_of places.new.free) }
@@ -65,7 +66,7 @@ struct Block {
     width: u64,
 }
 
-// These take a member's number beside the places: a view that holds both would stay borrowed while tags are changed.
+// These ask that m is a member: a view of the places and a member would be built anew for each member that a walk comes to.
 /// The first member with a tag of start or more, looked for from m back.
 fn first_from(places: &Places<'_>, m: usize, start: u64) -> usize
     requires member { has (order places.now.members.now) m ≡ true }

@@ -1,4 +1,4 @@
-ghost use Rattle.std.specs.Prelude.{◌≡◌, ◌<◌, map};
+ghost use Rattle.std.specs.Prelude.{◌≡◌, ◌<◌, map, take};
 ghost use Rattle.program.specs.View.{viewed};
 ghost use Rattle.code.specs.Args.{given};
 ghost use Rattle.code.specs.Values.{listed};
@@ -22,6 +22,15 @@ fn input(k: usize) -> Value
 }
 
 impl Args {
+    /// The first of these values, so many, or all where there are fewer.
+    pub fn new(items: [Value; MOST_ARGS], count: u8) -> Args
+        ensures { listed result ≡ take count items }
+    {
+        let mut args = Args::none();
+        args.push_all(&items[..(count as usize).min(MOST_ARGS)]);
+        args
+    }
+
     /// What RUN gives function 0: inputs.
     pub fn of_run(program: &Program) -> Args
         ensures { listed result ≡ map given (viewed program.now).run }

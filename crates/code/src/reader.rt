@@ -9,6 +9,7 @@ use crate::running::Running;
 use program::value::{Content, Value};
 
 /// What a read enters, by the content that it takes.
+// A CAS has two functions for one list of arguments, so a function and its arguments are not one struct.
 #[derive(Clone, Copy)]
 pub enum Reader {
     /// The function, with the number and then the arguments.

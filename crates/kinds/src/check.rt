@@ -27,7 +27,7 @@ fn heads<'a>(heap: Global, text: &'a [u8]) -> Result<Vec<Fields<'a>>, AllocError
     Ok(heads)
 }
 
-// The fault that is told of a text, if it has one.
+// The fault that is told of a text, if it has one. What it means for the text stands once, on check_kinds.
 fn check_rules(heap: Global, text: &[u8]) -> Result<(), Refusal>
     ensures { Tells result (fault_of text.now) }
 {

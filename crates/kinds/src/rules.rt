@@ -165,7 +165,7 @@ impl<'a> Scope<'a> {
         begin_with(lead, params) && self.takes(args, params.skip(lead.len()))
     }
 
-    // The same, entered by a tail, whose function has the result kind that the entered one has.
+    // Whether a tail may enter function v so: the entered function takes these, and has the result kind of the one that it leaves.
     fn enters(&self, v: Option<usize>, lead: &[Kind], args: Fields<'_>) -> bool
         ensures { result ≡ entered (head_in (heads_known self.now) v) self.now.result lead.now self.now.kinds.items (values args.entry) }
     {

@@ -20,6 +20,7 @@ pub struct Scope<'a> {
 }
 
 impl<'a> Scope<'a> {
+    // Before the first FUN no rule asks for the result kind; an Option would be taken apart at each line of a function.
     pub(crate) fn of(heap: Global, heads: Vec<Fields<'a>>) -> Scope<'a>
         ensures heads { heads_known result ≡ heads_held heads.entry.items }
         ensures known { known result ≡ unknown }
@@ -31,7 +32,7 @@ impl<'a> Scope<'a> {
         }
     }
 
-    // Moves behind a line.
+    // Takes a line in: what is known behind it.
     pub(crate) fn pass(&mut self, heap: Global, line: Parts<'_>) -> Result<(), AllocError>
         ensures heads { heads_known self.new ≡ heads_known self.old }
         ensures known { OnOk result (known self.new ≡ known_after (heads_known self.old) (known self.old) (line.entry.word, values line.entry.fields)) }

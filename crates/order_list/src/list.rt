@@ -5,6 +5,9 @@ ghost use Rattle.order_list.specs.declared.refusal.ListRefusal.{ListRefusal};
 
 use crate::refusal::ListRefusal;
 
+/// The most member places of a list.
+pub const MOST_PLACES: usize = 4096;
+
 /// A list of different member numbers below a fixed capacity, the base 0 first.
 pub trait OrderList {
     /// The members in their order, the base first.
@@ -13,7 +16,7 @@ pub trait OrderList {
     /// The capacity.
     ghost size: { Self → ℕ };
 
-    /// What a make pins besides, of what it stores: clearing s leaves t.
+    /// What a make says besides, of the places that it stores its members in: clearing s may leave t.
     ghost clears: { Self → Self → Type 0 };
 
     /// Inserting behind m in s answers r and leaves t.

@@ -17,7 +17,7 @@ pub enum ListRefusal {
 
 impl ListRefusal {
     /// The number by which the refusal is told.
-    // A cast to the discriminant names its enum, so each enum of refusals has this method of its own.
+    // A cast to the discriminant names its enum, so each enum of refusals has this method; `u8::from` would not say what it gives.
     pub fn number(self) -> u8
         ensures { result ≡ number_of self }
     {

@@ -79,6 +79,7 @@ fn refused_calls(rt: HostRuntime) -> Result<(), Fail> {
 }
 
 /// The number of the refusal to build a list in the places, if it is refused.
+// Tried `map_err` and `told`: a closure that takes the lent places is not covered.
 fn told_of(places: &mut [Member]) -> Option<u8> {
     match RenumberingList::new(places) {
         Ok(_) => None,

@@ -56,6 +56,7 @@ fn read_command(heap: Global, line: Parts<'_>) -> Result<Command, AllocError>
     ensures { IfOk result (λ c. command_line c ≡ (line.entry.word, values line.entry.fields)) }
 {
     let Parts { word, fields, .. } = line;
+    // Each word has its arm: a conversion of words to operations would leave the others to a second match.
     match word {
         Word::Lit => Ok(Command::Lit {
             value: fields.number(0),

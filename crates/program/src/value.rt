@@ -19,6 +19,7 @@ pub enum Content {
 }
 
 /// What an input is set to: the empty list, a number, or a cell of two inputs.
+// Beside Content, and not one type with a parameter for what a cell names: each definition of the meaning would carry it.
 #[derive(Clone, Copy, PartialEq, Eq, Debug)]
 pub enum InputContent {
     Empty,

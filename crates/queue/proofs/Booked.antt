@@ -11,7 +11,7 @@ use Rattle.std.proofs.lemmas.List.{length-take-le}
 use Rattle.std.proofs.lemmas.List.Quantifiers.{position-Some}
 use Rattle.queue.specs.declared.booking.Booking.{Booking}
 use Rattle.queue.specs.declared.bookings.Bookings.{Bookings}
-use Rattle.queue.specs.declared.bookings.TheConstants.{MOST_BOOKINGS}
+use Rattle.queue.specs.Refusals.{most_bookings}
 use Rattle.queue.specs.declared.refusal.QueueRefusal.{QueueRefusal}
 use Rattle.queue.specs.declared.refusal.BookingRefusal.TheVariants.{Full}
 use Rattle.queue.specs.Heaps.{Heaped, First, Puts, Takes}
@@ -34,13 +34,13 @@ none_has b xs e = none_from b 0 xs (sym (position_from-zero (λ p. is_same_place
 
 -- the first m of ys wait where s kept b
 pub record Keeps (s : Bookings) (b : Booking) (ys : List Booking) (m : ℕ) : Type 0 where
-  pub sized : m ≤ MOST_BOOKINGS
+  pub sized : m ≤ most_bookings
   pub heaped : Heaped sooner (take m ys)
   pub once : Once sooner (take m ys)
   pub unrefused : book_refusal (waiting s) b ≡ None
   pub is_placed : listed sooner (take m ys) ≡ placed sooner b (waiting s)
 
-module _ (s : Bookings) (whole : length s.places ≡ MOST_BOOKINGS) (b : Booking) where
+module _ (s : Bookings) (whole : length s.places ≡ most_bookings) (b : Booking) where
   front_long : length (take s.count s.places) ≡ s.count
   front_long = length-take-le s.count s.places (omega arith)
 
@@ -67,7 +67,7 @@ module _ (s : Bookings) (whole : length s.places ≡ MOST_BOOKINGS) (b : Booking
 
     pub added : (m : ℕ) → Puts (λ _. Unit {0}) sooner s.count b s.places (Ok m) ys → Keeps s b ys m
     added m p =
-        let l = lt-ltb s.count MOST_BOOKINGS (omega (arith, p.fits.0 refl)) in
+        let l = lt-ltb s.count most_bookings (omega (arith, p.fits.0 refl)) in
         let more = once_more sooner sooner_lawful b (take s.count s.places) (none_has b (take s.count s.places) (sym none)) s.once in
         rw p.items.0 (record {
           sized = omega (arith, p.fits.0 refl);
@@ -79,18 +79,18 @@ module _ (s : Bookings) (whole : length s.places ≡ MOST_BOOKINGS) (b : Booking
 
     pub refused : (e : QueueRefusal) → Puts (λ _. Unit {0}) sooner s.count b s.places (Err e) ys → book_refusal (waiting s) b ≡ Some Full
     refused e p =
-        let l = le-ltb s.count MOST_BOOKINGS (elim (leb_tells MOST_BOOKINGS s.count) [ inl q ↦ q.1 | inr q ↦ absurd (false≢true (p.fits.1 (omega (arith, q.1)))) ]) in
+        let l = le-ltb s.count most_bookings (elim (leb_tells most_bookings s.count) [ inl q ↦ q.1 | inr q ↦ absurd (false≢true (p.fits.1 (omega (arith, q.1)))) ]) in
         rw (unlisted, waiting_long, l) refl
 
 -- the first m of ys wait where s answered whether one is due by d
 pub record TakesDue (s : Bookings) (d : ℕ) (answer : Option Booking) (ys : List Booking) (m : ℕ) : Type 0 where
-  pub sized : m ≤ MOST_BOOKINGS
+  pub sized : m ≤ most_bookings
   pub heaped : Heaped sooner (take m ys)
   pub once : Once sooner (take m ys)
   pub is_first : answer ≡ first_due (waiting s) d
   pub is_left : listed sooner (take m ys) ≡ after_due (waiting s) d
 
-module _ (s : Bookings) (whole : length s.places ≡ MOST_BOOKINGS) (d : ℕ) (ys : List Booking) where
+module _ (s : Bookings) (whole : length s.places ≡ most_bookings) (d : ℕ) (ys : List Booking) where
   nothing : Takes (λ _. Unit {0}) sooner (min s.count (length s.places)) s.places None ys → TakesDue s d None s.places s.count
   nothing t =
       let e : s.count ≡ 0 = elim (leb_tells 1 s.count) [ inl q ↦ absurd (false≢true (t.some.1 (omega (arith, q.1)))) | inr q ↦ omega (arith, q.1) ] in

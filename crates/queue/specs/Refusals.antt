@@ -12,3 +12,7 @@ number_of queued.Full = 35
 -- the number by which a refusal of a booking is told
 abbrev pub booking_number_of : BookingRefusal → ℕ
 booking_number_of booked.Full = 17
+
+-- the most bookings that wait
+abbrev pub most_bookings : ℕ
+most_bookings = 64

@@ -2,7 +2,7 @@
 use Rattle.std.specs.Prelude.{◌≡◌, ℕ, if◌then◌else◌, List, [], ◌∷◌, length, take, Some, None, Ok, Err, Option, Result, nat_lt}
 use Rattle.queue.specs.declared.booking.Booking.{Booking}
 use Rattle.queue.specs.declared.bookings.Bookings.{Bookings}
-use Rattle.queue.specs.declared.bookings.TheConstants.{MOST_BOOKINGS}
+use Rattle.queue.specs.Refusals.{most_bookings}
 use Rattle.queue.specs.declared.refusal.BookingRefusal.{BookingRefusal}
 use Rattle.queue.specs.declared.refusal.BookingRefusal.TheVariants.{Full}
 use Rattle.queue.specs.Sooner.{sooner, due}
@@ -14,7 +14,7 @@ waiting s = listed sooner (take s.count s.places)
 
 -- why a booking is refused, if it is: all places are taken, and none waits for its day and input
 abbrev pub book_refusal : List Booking → Booking → Option BookingRefusal
-book_refusal ws b = if has_place sooner ws b then None else (if nat_lt (length ws) MOST_BOOKINGS then None else Some Full)
+book_refusal ws b = if has_place sooner ws b then None else (if nat_lt (length ws) most_bookings then None else Some Full)
 
 -- a booking, by what it answers: b waits in its place, instead of the earlier one for its day and input; or nothing changed
 abbrev pub Booked : List Booking → Booking → Result (Unit {0}) BookingRefusal → List Booking → Type 0

@@ -3,7 +3,7 @@ ghost use Rattle.std.specs.Prelude.{◌≡◌, ◌≤◌, [], take, position};
 ghost use Rattle.std.proofs.Props.{props};
 ghost use Rattle.queue.specs.Heaps.{Heaped};
 ghost use Rattle.queue.specs.Listing.{Once};
-ghost use Rattle.queue.specs.declared.bookings.TheConstants.{MOST_BOOKINGS};
+ghost use Rattle.queue.specs.Refusals.{most_bookings};
 ghost use Rattle.queue.specs.Sooner.{sooner, is_same_place};
 
 use crate::booking::{Booking, BookingOrder};
@@ -29,7 +29,7 @@ pub struct Bookings {
     // The queue's functions take places as a slice with the count beside it, and nothing is allocated.
     places: [Booking; MOST_BOOKINGS],
     count: usize,
-    ghost sized: { count ≤ MOST_BOOKINGS },
+    ghost sized: { count ≤ most_bookings },
     ghost heaped: { Heaped sooner (take count places) } by { Prim.hlevel props },
     ghost once: { Once sooner (take count places) },
 }
@@ -61,6 +61,7 @@ impl Bookings {
     pub fn book(&mut self, b: Booking) -> Result<(), BookingRefusal>
         ensures { Booked (waiting self.old) b result (waiting self.new) }
     {
+        // The queue changes a copy: in the midst of a call the places are no heap.
         let mut places = self.places;
         let mut count = self.count;
         match self.place_of(&b) {

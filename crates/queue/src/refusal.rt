@@ -12,7 +12,7 @@ pub enum QueueRefusal {
 
 impl QueueRefusal {
     /// The number by which the refusal is told.
-    // A cast to the discriminant names its enum, so each enum of refusals has this method of its own.
+    // A cast to the discriminant names its enum, so each enum of refusals has this method; `u8::from` would not say what it gives.
     pub fn number(self) -> u8
         ensures { result ≡ number_of self }
     {
@@ -30,7 +30,7 @@ pub enum BookingRefusal {
 
 impl BookingRefusal {
     /// The number by which the refusal is told.
-    // A cast to the discriminant names its enum, so each enum of refusals has this method of its own.
+    // A cast to the discriminant names its enum, so each enum of refusals has this method; `u8::from` would not say what it gives.
     pub fn number(self) -> u8
         ensures { result ≡ booking_number_of self }
     {

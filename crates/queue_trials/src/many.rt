@@ -16,9 +16,9 @@ pub(crate) fn of_day(day: u16) -> Booking {
     }
 }
 
-/// The days below a thousand, mixed.
+/// Another day below a thousand, such that each comes once.
 fn mixed(day: u16) -> u16 {
-    (u32::from(day) * 389 % 1000) as u16
+    (u32::from(day) * 389 % MANY as u32) as u16
 }
 
 /// Puts a booking of each day below a thousand into the queue, and answers how many it then has.

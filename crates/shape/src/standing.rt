@@ -51,7 +51,8 @@ pub struct Standing {
     registers: usize,
 }
 
-// The part of a text that a line of this word is.
+// The part of a text that a line of this word is. The forms of lines follow it, but layer 1 does not know the parts that this one
+// makes rules of.
 pub fn part_of(word: Word) -> Part
     ensures { result ≡ part_of word }
 {
@@ -153,7 +154,7 @@ impl Standing {
         }
     }
 
-    // How things stand behind a line that passes none.
+    // How things stand behind a line that passes no range and no limit.
     fn behind(&self, part: Part, fields: Fields<'_>) -> Standing
         requires { IsTrue (ranged self.now part (values fields)) }
         ensures { result ≡ behind_part self.now part (length (values fields.entry)) }

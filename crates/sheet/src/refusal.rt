@@ -21,7 +21,7 @@ pub enum Refusal {
 
 impl Refusal {
     /// The number by which the refusal is told.
-    // A cast to the discriminant names its enum, so each enum of refusals has this method of its own.
+    // A cast to the discriminant names its enum, so each enum of refusals has this method; `u8::from` would not say what it gives.
     pub fn number(self) -> u8
         ensures { result ≡ number_of self }
     {
@@ -46,7 +46,7 @@ pub enum MakeRefusal {
 
 impl MakeRefusal {
     /// The number by which the refusal is told.
-    // A cast to the discriminant names its enum, so each enum of refusals has this method of its own.
+    // A cast to the discriminant names its enum, so each enum of refusals has this method; `u8::from` would not say what it gives.
     pub fn number(self) -> u8
         ensures { result ≡ make_number_of self }
     {

@@ -16,6 +16,7 @@ pub(crate) struct Links {
 
 /// For each source a ring of the places whose reads stand on it, linked both ways. A node below 1024 is a place; node
 /// 1024 + s is the head of the ring of source s.
+// Nothing is allocated once a program is checked: so rings of narrow numbers in fixed memory.
 #[derive(Drop)]
 pub struct Readers {
     nodes: [Links; NODES],

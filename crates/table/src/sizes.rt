@@ -1,5 +1,6 @@
 // How much a table holds.
 use crate::limit::methods::MOST_RECORDS;
+use order_list::list::MOST_PLACES;
 use shape::standing;
 
 /// The record places: two for each record that the largest limit allows.
@@ -8,8 +9,8 @@ pub(crate) const PLACES: usize = 2 * MOST_RECORDS as usize;
 /// The most inputs of a program.
 pub(crate) const INPUTS: usize = standing::INPUTS;
 
-/// The stamps are members of an order list, which has 4,096 at most.
-pub(crate) const STAMPS: usize = 4096;
+/// The stamps are members of an order list.
+pub(crate) const STAMPS: usize = MOST_PLACES;
 
 /// The sources: the modifiables of the records, and behind them the inputs.
 pub(crate) const SOURCES: usize = PLACES + INPUTS;

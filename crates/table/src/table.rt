@@ -22,7 +22,7 @@ pub struct Table {
     /// The place whose record has a stamp.
     owners: [u16; STAMPS],
     /// The free places, a stack, and how many there are.
-    // Nothing is allocated once a program is checked: so a stack in fixed memory, with its length beside it.
+    // Nothing is allocated once a program is checked: so a stack in fixed memory, with a narrow length beside it.
     spare: [u16; PLACES],
     spares: u16,
     /// How many records may still be made.

@@ -72,7 +72,8 @@ impl<'a> Fields<'a> {
         }
     }
 
-    // The number in field j, or 0 where there is no field j: who calls it has counted the fields, and needs no Option.
+    // The number in field j, or 0 where there is no field j: a public promise, by value; the count tells
+    // which fields there are.
     pub fn number(self, j: usize) -> i32
         ensures { result ≡ slice_index_or (values self.entry) j (pos 0) }
     {

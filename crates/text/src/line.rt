@@ -28,8 +28,8 @@ pub enum Word {
     Cas,
 }
 
-// A line of a text, by its form, with its number; its fields are parts of the text. Each form has them in it, so that a
-// match on the form has them at hand.
+// A line of a text, by its form, with its number; its fields are parts of the text. The project keeps lines as forms
+// that borrow their fields, so each form has them in it.
 #[derive(Clone, Copy)]
 pub enum Line<'a> {
     Inputs {
@@ -65,7 +65,7 @@ pub struct Parts<'a> {
 }
 
 // The faults of layer 1: a wrong length of the text or of a line, an unknown word, a field that is no number.
-// Each names its line: with a struct of a line and a kind, whoever matches a fault would take two steps for one.
+// Each names its line, and stands whole in the faults above: with a struct of a line and a kind, whoever matches a fault would take two steps for one.
 #[derive(Clone, Copy, PartialEq, Eq, Debug)]
 pub enum LineFault {
     Length { line: usize },

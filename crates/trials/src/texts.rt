@@ -52,9 +52,7 @@ fn repeated(
     back: &[u8],
 ) -> Result<Vec<u8>, AllocError> {
     let mut text = Vec::from_slice(heap, front)?;
-    for _ in 0..times {
-        text.extend_from_slice(part)?;
-    }
+    text.extend_from_slice(part.repeat(heap, times)?.as_slice())?;
     text.extend_from_slice(back)?;
     Ok(text)
 }

@@ -36,7 +36,7 @@ impl<const N: usize> Values<N> {
     }
 
     /// The values as a slice.
-    pub(crate) fn as_slice(&self) -> &[Value]
+    pub fn as_slice(&self) -> &[Value]
         ensures items { result.now ≡ listed self.now }
         ensures few { length result.now ≤ N }
     {

@@ -14,6 +14,7 @@ use program::value::InputContent;
 
 impl<O: OrderList> Sheet<O> {
     /// The pass, if it bears the sheet's number and goes with its state.
+    // Number and state come beside the pass: a trait over the pass types would be made for this one function.
     fn admit<P>(&self, number: u16, state: State, pass: P) -> Result<P, Refused<P>>
         ensures { Admits self.now number state pass result }
     {

@@ -8,6 +8,7 @@ pub const MOST_RECORDS: u16 = 512;
 
 impl Limit {
     /// This limit, or none where it is not 1 to 512.
+    // A constructor with an Option, as the library's NonZero types have.
     pub fn new(value: u16) -> Option<Limit>
         ensures { Limited value result }
     {

@@ -8,6 +8,7 @@ use program::value::InputContent;
 
 impl Table {
     /// Sets an input; behind the last there is none.
+    // Tried `get_mut`: the proof does not know the array afterwards.
     pub fn post(&mut self, input: u16, content: InputContent)
         ensures posted { self.new.inputs ≡ slice_set self.old.inputs input content }
         ensures noted { self.new.noted ≡ self.old.noted }

@@ -45,7 +45,7 @@ impl Table {
         self.records
             .get(place as usize)
             .copied()
-            .unwrap_or(Record::BLANK)
+            .unwrap_or_default()
     }
 
     /// The place whose record has a stamp; behind the last it is 0.
@@ -57,7 +57,8 @@ impl Table {
     }
 
     /// Puts a record at its place.
-    // Names and records keep places as plain numbers, so a type of places below 1024 would be unwrapped and wrapped at each use.
+    // Names and records keep places as plain numbers, so a type of places below 1024 would be unwrapped and wrapped at each use, here,
+    // in `enter` and in the rings.
     pub(crate) fn put(&mut self, place: u16, record: Record)
         requires { place < 1024 }
         ensures puts { Puts self.old self.new place «record» }
@@ -73,7 +74,7 @@ impl Table {
         ensures puts { Puts self.old self.new place «record» }
         ensures enters { Enters self.old self.new place «record» }
     {
-        self.records[place as usize] = record;
+        self.put(place, record);
         if let Some(source) = record.entry.source() {
             self.readers.link(source, place);
         }

@@ -32,6 +32,7 @@ pub(crate) struct Written {
 }
 
 /// A run of a program: the table and the list that it fills.
+// The cursor is no field: a run that comes out too large has none, and its steps hand it on.
 #[derive(Drop)]
 pub(crate) struct Run<'a, O: OrderList> {
     table: &'a mut Table,
@@ -54,7 +55,7 @@ fn stamp<O: OrderList>(list: &mut O, cursor: u16) -> u16
 }
 
 impl<O: OrderList> Run<'_, O> {
-    /// A record begins at a free place, with its start directly behind the cursor.
+    /// A record begins at a free place, with its start directly behind the cursor. Until it ends, its end is its start.
     fn begin(&mut self, entry: Entry, cursor: u16) -> Result<Stamped, TooLarge>
         requires { MayRun O.OrderList self.old cursor }
         ensures begins { RunBegins O.OrderList self.old self.new cursor entry result }
@@ -158,6 +159,7 @@ impl<O: OrderList> Run<'_, O> {
     }
 
     /// Runs the whole program: a NEW of function 0, given the inputs of RUN.
+    // The code around function 0 is code like any other: by the meaning it then writes the empty list, to no destination.
     fn run_main(&mut self) -> Result<Written, TooLarge>
         requires { MayRun O.OrderList self.old 0 }
         ensures ends { RunEnds O.OrderList (main (viewed self.old.program.now)) 1024 self.old self.new 0 result }

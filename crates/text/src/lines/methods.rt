@@ -1,6 +1,6 @@
 ghost use Rattle.std.specs.Prelude.{◌≡◌};
 ghost use Rattle.text.specs.Lines.{lines_in, standing};
-ghost use Rattle.text.specs.Reader.{left, passed, unread, HandsOut, TellsNext};
+ghost use Rattle.text.specs.Reader.{left, passed, unread, TellsNext};
 
 use crate::cut::first_line;
 use crate::line::{Line, LineFault};
@@ -38,13 +38,6 @@ impl<'a> Lines<'a> {
             Err(fault) => Some(Err(fault)),
         }
     }
-
-    // The next line, if one is left and keeps the rules of layer 1.
-    pub fn next_line(&mut self) -> Option<Line<'a>>
-        ensures { HandsOut self.old result self.new }
-    {
-        self.next()
-    }
 }
 
 impl<'a> Iterator for Lines<'a> {
@@ -57,6 +50,7 @@ impl<'a> Iterator for Lines<'a> {
 
     ghost remaining = { item_count left };
 
+    // The next line, if one is left and keeps the rules of layer 1.
     fn next(&mut self) -> Option<Line<'a>> {
         self.tell_next()?.ok()
     }
