@@ -10,7 +10,7 @@ use std::fmt;
 use text::line::LineFault;
 
 // A fault of layer 1 or 2, or one of layer 3: a register, function or input that is not there, kinds or argument numbers
-// that disagree.
+// that disagree. Each names its line, as the faults do that stand whole in it.
 #[derive(Clone, Copy, PartialEq, Eq, Debug)]
 pub enum KindFault {
     Shape(ShapeFault),

@@ -16,6 +16,11 @@ const LIST_SUM: &[u8] =
 
 const START: &[u8] = b"INP     1     0\nRUN\n";
 
+// A whole function, and the head of one behind the start.
+const FUNCTION: &[u8] = b"FUN     2\nLIT     0\nPUT     0\n";
+
+const START_AND_HEAD: &[u8] = b"INP     1     0\nRUN\nFUN     2\n";
+
 // Nothing where the text is accepted.
 fn fault_of(heap: Global, text: &[u8]) -> Result<Option<Fault>, AllocError> {
     let mut place = Program::smallest(heap)?;
@@ -250,25 +255,13 @@ fn ranges_are_told(rt: HostRuntime) -> Result<(), Fail> {
 #[test]
 fn limits_are_told(rt: HostRuntime) -> Result<(), Fail> {
     let heap = rt.alloc();
-    let full = repeated(
-        heap,
-        b"INP     1     0\nRUN\nFUN     2\n",
-        b"LIT     0\n",
-        16,
-        b"PUT     0\n",
-    )?;
+    let full = repeated(heap, START_AND_HEAD, b"LIT     0\n", 16, b"PUT     0\n")?;
     assert_eq!(rt; fault_of(heap, full.as_slice())?, None);
-    let register = repeated(
-        heap,
-        b"INP     1     0\nRUN\nFUN     2\n",
-        b"LIT     0\n",
-        17,
-        b"PUT     0\n",
-    )?;
+    let register = repeated(heap, START_AND_HEAD, b"LIT     0\n", 17, b"PUT     0\n")?;
     assert_eq!(rt; fault_of(heap, register.as_slice())?, Some(Fault(6, 20, 2)));
-    let many = repeated(heap, START, b"FUN     2\nLIT     0\nPUT     0\n", 64, b"")?;
+    let many = repeated(heap, START, FUNCTION, 64, b"")?;
     assert_eq!(rt; fault_of(heap, many.as_slice())?, None);
-    let function = repeated(heap, START, b"FUN     2\nLIT     0\nPUT     0\n", 65, b"")?;
+    let function = repeated(heap, START, FUNCTION, 65, b"")?;
     assert_eq!(rt;
         fault_of(heap, function.as_slice())?,
         Some(Fault(6, 195, 2))
@@ -282,13 +275,7 @@ fn the_last_step_is_told(rt: HostRuntime) -> Result<(), Fail> {
     let block = repeated(heap, b"FUN     2\n", b"LIT     0\n", 15, b"PUT     0\n")?;
     let most = repeated(heap, START, block.as_slice(), 32, b"")?;
     assert_eq!(rt; fault_of(heap, most.as_slice())?, None);
-    let more = repeated(
-        heap,
-        START,
-        block.as_slice(),
-        32,
-        b"FUN     2\nLIT     0\nPUT     0\n",
-    )?;
+    let more = repeated(heap, START, block.as_slice(), 32, FUNCTION)?;
     assert_eq!(rt; fault_of(heap, more.as_slice())?, Some(Fault(6, 548, 2)));
     Ok(())
 }
