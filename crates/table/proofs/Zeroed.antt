@@ -1,22 +1,15 @@
 -- Arrays made one element at a time, and the inputs at first.
-use Rattle.std.proofs.Common.{◌≡◌, ℕ, zero, suc, ◌+◌, ◌<◌, ◌≤◌, List, get_or, replicate, subst, sym, ap, ◌∙◌, inl, inr, arith}
+use Rattle.std.proofs.Common.{◌≡◌, ℕ, zero, suc, ◌+◌, ◌<◌, ◌≤◌, List, get_or, replicate, subst, sym, inl, inr, arith}
 use denote.Param.Members.{Mut, Called}
 use lib.ListN.{get_or-replicate, length-replicate}
 use Rattle.std.specs.Array.{IsFromFnResultFrom}
 use Rattle.std.proofs.lemmas.List.{get_or_past}
 use Rattle.std.proofs.lemmas.Bool.{cases_lt}
 use Rattle.program.specs.declared.program.Program.{Program}
-use Rattle.table.specs.declared.record.Record.{Record}
-use Rattle.table.specs.declared.record.Entry.TheVariants.{Blank}
-use Rattle.table.specs.Records.{blank}
 use Rattle.program.proofs.Sound.{sound}
 
--- as many places as there are hold a blank record, and so does what lies behind them
-pub all_blank : (n q : ℕ) (r : Record) → r.entry ≡ Blank → (get_or (replicate n r) q blank).entry ≡ Blank
-all_blank n q r e = elim (cases_lt q n) [
-  | inl l ↦ ap (λ (x : Record). x.entry) (get_or-replicate n q r blank l) ∙ e
-  | inr l ↦ ap (λ (x : Record). x.entry) (get_or_past (replicate n r) q blank (let e = length-replicate n r in omega arith))
-]
+pub all_alike : {A : Type 0} (n j : ℕ) (x : A) → get_or (replicate n x) j x ≡ x
+all_alike n j x = elim (cases_lt j n) [ inl l ↦ get_or-replicate n j x x l | inr l ↦ get_or_past (replicate n x) j x (let e = length-replicate n x in omega arith) ]
 
 -- the calls of f gave what P says of each index, where one call does and leaves f as it was
 module _ {F B : Type 0} (g : Mut F (ℕ × Unit {0}) B) (f : F) (P : ℕ → B → Type 0) (ys : List B) (d : B)

@@ -45,7 +45,7 @@ impl Table {
         self.records
             .get(place as usize)
             .copied()
-            .unwrap_or_default()
+            .unwrap_or(Record::BLANK)
     }
 
     /// The place whose record has a stamp; behind the last it is 0.

@@ -55,7 +55,7 @@ impl Table {
     {
         let inputs = zeros(program);
         Table {
-            records: [Record::default(); PLACES],
+            records: [Record::BLANK; PLACES],
             inputs,
             noted: inputs,
             owners: [0; STAMPS],
@@ -73,7 +73,7 @@ impl Table {
         ensures same { O.OrderList.size list.new ≡ O.OrderList.size list.old }
     {
         list.clear();
-        self.records = [Record::default(); PLACES];
+        self.records = [Record::BLANK; PLACES];
         self.spare = all_places();
         self.spares = places_for(limit);
         self.readers = Readers::new();
