@@ -9,7 +9,7 @@ pub(crate) const NODES: usize = PLACES + SOURCES;
 
 /// The nodes behind and before a node of a ring.
 #[derive(Clone, Copy)]
-pub(crate) struct Links {
+pub struct Links {
     next: u16,
     previous: u16,
 }
