@@ -1,31 +1,45 @@
--- Arrays made one element at a time, and the inputs at first.
-use Rattle.std.proofs.Common.{◌≡◌, ℕ, zero, suc, ◌+◌, ◌<◌, ◌≤◌, List, get_or, replicate, subst, sym, inl, inr, arith}
-use denote.Param.Members.{Mut, Called}
+-- Arrays filled with one value, and the inputs at first.
+use Rattle.std.proofs.Common.{◌≡◌, ℕ, ◌+◌, ◌<◌, ◌≤◌, cond, ltb, List, length, get_or, set, replicate, pos, sym, ap, ◌∙◌, subst, inl, inr, arith, get_or-set_other, get_or-set_same}
 use lib.ListN.{get_or-replicate, length-replicate}
-use Rattle.std.specs.Array.{IsFromFnResultFrom}
 use Rattle.std.proofs.lemmas.List.{get_or_past}
-use Rattle.std.proofs.lemmas.Bool.{cases_lt}
+use Rattle.std.proofs.lemmas.Bool.{cases_eq, cases_lt, lt-ltb, le-ltb}
 use Rattle.program.specs.declared.program.Program.{Program}
+use Rattle.table.specs.declared.record.Record.{Record}
+use Rattle.table.specs.declared.record.Entry.TheVariants.{Blank}
+use Rattle.table.specs.Records.{blank}
 use Rattle.program.proofs.Sound.{sound}
+use Rattle.program.specs.declared.value.InputContent.{InputContent}
+use Rattle.program.specs.declared.value.InputContent.TheVariants.{Number, Empty}
 
 pub all_alike : {A : Type 0} (n j : ℕ) (x : A) → get_or (replicate n x) j x ≡ x
 all_alike n j x = elim (cases_lt j n) [ inl l ↦ get_or-replicate n j x x l | inr l ↦ get_or_past (replicate n x) j x (let e = length-replicate n x in omega arith) ]
 
--- the calls of f gave what P says of each index, where one call does and leaves f as it was
-module _ {F B : Type 0} (g : Mut F (ℕ × Unit {0}) B) (f : F) (P : ℕ → B → Type 0) (ys : List B) (d : B)
-    (one : (i : ℕ) (y : B) (q : F) → Called g f (i, tt) y q → (q ≡ f) × P i y) where
-  made_from : (n i : ℕ) → IsFromFnResultFrom g f ys i n → (k : ℕ) → k < n → P (i + k) (get_or ys (i + k) d)
-  made_from zero i h k l = absurd (omega arith)
-  made_from (suc n) i h zero l =
-      let e = one i h.1 h.0 h.3 in
-      subst (λ (j : ℕ). P j (get_or ys j d)) (let z : i ≡ i + 0 = omega arith in z) (subst (P i) (sym (h.2.1 d)) e.1)
-  made_from (suc n) i h (suc k) l =
-      let e = one i h.1 h.0 h.3 in
-      subst (λ (j : ℕ). P j (get_or ys j d)) (let z : (i + 1) + k ≡ i + suc k = omega arith in z)
-      (made_from n (i + 1) (subst (λ (q : F). IsFromFnResultFrom g q ys (i + 1) n) e.0 h.4) k (omega arith))
+-- as many places as there are hold a blank record, and so does what lies behind them
+pub all_blank : (n q : ℕ) (r : Record) → r.entry ≡ Blank → (get_or (replicate n r) q blank).entry ≡ Blank
+all_blank n q r e = elim (cases_lt q n) [
+  | inl l ↦ ap (λ (x : Record). x.entry) (get_or-replicate n q r blank l) ∙ e
+  | inr l ↦ ap (λ (x : Record). x.entry) (get_or_past (replicate n r) q blank (let e = length-replicate n r in omega arith))
+]
 
-  pub made_each : (n : ℕ) → IsFromFnResultFrom g f ys 0 n → (k : ℕ) → k < n → P k (get_or ys k d)
-  made_each n h k l = subst (λ (j : ℕ). P j (get_or ys j d)) (let z : 0 + k ≡ k = omega arith in z) (made_from n 0 h k l)
+-- the first k are zero
+abbrev pub first_zero : ℕ → ℕ → InputContent
+first_zero k j = cond (ltb j k) (Number (pos 0)) Empty
+
+pub none_zero : (j : ℕ) → Empty ≡ first_zero 0 j
+none_zero j = let t = le-ltb j 0 (omega arith) in rw t
+
+pub one_zero_more : (xs : List InputContent) (k : ℕ) → k < length xs → ((j : ℕ) → get_or xs j Empty ≡ first_zero k j) → (j : ℕ) → get_or (set xs k (Number (pos 0))) j Empty ≡ first_zero (k + 1) j
+one_zero_more xs k l h j = elim (cases_eq j k) [
+  | inl e ↦ subst (λ (i : ℕ). get_or (set xs k (Number (pos 0))) i Empty ≡ first_zero (k + 1) i) (sym e)
+      (get_or-set_same xs k (Number (pos 0)) Empty l ∙ sym (let t = lt-ltb k (k + 1) (omega arith) in rw t))
+  | inr ne ↦ get_or-set_other xs k j (Number (pos 0)) Empty ne ∙ h j ∙ same ne
+]
+  where
+    same : (j ≡ k → ⊥) → first_zero k j ≡ first_zero (k + 1) j
+    same ne = elim (cases_lt j k) [
+      | inl a ↦ let s = lt-ltb j k a in let t = lt-ltb j (k + 1) (omega arith) in rw (s, t)
+      | inr a ↦ let s = le-ltb j k a in let t = le-ltb j (k + 1) (omega (arith, ne)) in rw (s, t)
+    ]
 
 -- a program has at most 256 inputs
 pub numbers_few : (p : Program) → p.numbers ≤ 256

@@ -6,8 +6,9 @@ use code::args::Args;
 use code::reader::Reader;
 use program::value::{Content, Name};
 
-/// What stands at a place, and its two stamps: the members of the order list at which it starts and ends.
-#[derive(Clone, Copy)]
+/// What stands at a place, and its two stamps: the members of the order list at which it starts and ends. The default is what a free
+/// place holds.
+#[derive(Clone, Copy, Default)]
 pub struct Record {
     pub entry: Entry,
     pub start: u16,
@@ -15,8 +16,9 @@ pub struct Record {
 }
 
 /// A place is blank, or a record stands there, or one that was dropped.
-#[derive(Clone, Copy)]
+#[derive(Clone, Copy, Default)]
 pub enum Entry {
+    #[default]
     Blank,
     /// A NEW: the function, given the arguments, writes the content of its modifiable.
     New {
@@ -47,16 +49,6 @@ fn source_number(name: Name) -> Option<u16>
         Name::Input(k) if (k as usize) < INPUTS => Some(PLACES as u16 + k),
         Name::Made(_) | Name::Input(_) => None,
     }
-}
-
-impl Record {
-    /// What a free place holds.
-    // Tried a derived `Default`: it proves, but the kit then fails to write out what the crate states.
-    pub(crate) const BLANK: Record = Record {
-        entry: Entry::Blank,
-        start: 0,
-        end: 0,
-    };
 }
 
 impl Entry {

@@ -45,7 +45,7 @@ impl Table {
         self.records
             .get(place as usize)
             .copied()
-            .unwrap_or(Record::BLANK)
+            .unwrap_or_default()
     }
 
     /// The place whose record has a stamp; behind the last it is 0.

@@ -1,7 +1,6 @@
 // Tables in which nothing stands.
-ghost use Rattle.std.specs.Prelude.{◌≡◌, ℕ, ◌+◌, ◌*◌, ◌<◌, ◌≤◌, cond, nat_lt, pos, slice_index};
+ghost use Rattle.std.specs.Prelude.{◌≡◌, ℕ, ◌+◌, ◌*◌, ◌<◌, ◌≤◌, slice_index};
 ghost use Rattle.program.specs.View.{viewed};
-ghost use Rattle.program.specs.declared.value.InputContent.TheVariants.{Number, Empty};
 ghost use Rattle.table.specs.Anew.{Vacant, Zeros, Cleared, HasRoom};
 
 use crate::limit::Limit;
@@ -28,22 +27,16 @@ fn all_places() -> [u16; PLACES]
     array::from_fn(|place| place as u16)
 }
 
-/// What an input holds at first: 0 if it has a number, else the empty list.
-fn at_first(program: &Program, k: usize) -> InputContent
-    ensures { result ≡ cond (nat_lt k (viewed program.now).numbers) (Number (pos 0)) Empty }
-{
-    if k < program.numbers {
-        InputContent::Number(0)
-    } else {
-        InputContent::Empty
-    }
-}
-
-/// The inputs at first.
+/// The inputs at first: 0 for those that have a number, and empty for the others.
 fn zeros(program: &Program) -> [InputContent; INPUTS]
     ensures { Zeros (viewed program.now) result }
 {
-    array::from_fn(|k| at_first(program, k))
+    let mut inputs = [InputContent::Empty; INPUTS];
+    // Tried `fill` on the part: the proof does not close; and `from_fn`: with it the kit does not write out what the crate states.
+    for k in 0..program.numbers {
+        inputs[k] = InputContent::Number(0);
+    }
+    inputs
 }
 
 impl Table {
@@ -55,7 +48,7 @@ impl Table {
     {
         let inputs = zeros(program);
         Table {
-            records: [Record::BLANK; PLACES],
+            records: [Record::default(); PLACES],
             inputs,
             noted: inputs,
             owners: [0; STAMPS],
@@ -73,7 +66,7 @@ impl Table {
         ensures same { O.OrderList.size list.new ≡ O.OrderList.size list.old }
     {
         list.clear();
-        self.records = [Record::BLANK; PLACES];
+        self.records = [Record::default(); PLACES];
         self.spare = all_places();
         self.spares = places_for(limit);
         self.readers = Readers::new();

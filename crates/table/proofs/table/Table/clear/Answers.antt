@@ -1,7 +1,5 @@
-use Rattle.std.proofs.Common.{refl, ap, arith}
-use Rattle.table.specs.declared.record.Record.{Record}
-use Rattle.table.specs.Records.{blank}
-use Rattle.table.proofs.Zeroed.{all_alike}
+use Rattle.std.proofs.Common.{refl, arith}
+use Rattle.table.proofs.Zeroed.{all_blank}
 use Rattle.table.proofs.Vacancy.{vacant, standing_in}
 use Rattle.table.proofs.table.Table.clear.Goals as goal
 
@@ -14,7 +12,7 @@ returns g c =
       cleared = record {
         holding = record {
           standing = standing_in l.only (omega arith) (vacant c.args.limit.most (record {
-            blank = λ q. ap (λ (r : Record). r.entry) (all_alike 1024 q blank);
+            blank = λ q. all_blank 1024 q _ c.default-self.ensures.0;
             spares = c.places_for-self.ensures;
             spare = c.all_places-self.ensures;
             rings = c.new-self.ensures;
