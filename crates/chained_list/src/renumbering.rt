@@ -31,6 +31,7 @@ impl Labelling for Renumbering {
 }
 
 /// Gives the members the ranks 0, 1, 2 ..
+// It takes the lent slice itself, as the links do.
 fn renumber(places: &mut [Member])
     requires strung { Strung places.old (order places.old) }
     requires few { length places.old ≤ most_places }

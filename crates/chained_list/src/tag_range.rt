@@ -126,6 +126,7 @@ fn loose_block(places: &Places<'_>, m: usize) -> Block
 }
 
 /// Gives the block's members evenly spread tags.
+// It takes the lent slice itself, as the links do.
 fn spread_out(members: &mut [Member], block: Block)
     requires holds { Holds members.old (order members.old) }
     requires few { length members.old ≤ most_places }

@@ -1,16 +1,7 @@
-use Rattle.std.proofs.Common.{refl, add-one, arith}
-use Rattle.chained_list.specs.Chain.{Retagged}
+use Rattle.std.proofs.Common.{add-one, arith}
 use Rattle.chained_list.proofs.Neighbours.{in_range}
-use Rattle.chained_list.proofs.Spreads.{begins, starts, small, same_more, tags_more, at_more, ends}
+use Rattle.chained_list.proofs.Spreads.{same_more, tags_more, at_more, ends}
 use Rattle.chained_list.proofs.tag_range.spread_out.Goals as goal
-
-pub loop-j-init : goal.loop-j-init
-loop-j-init c =
-    let same : Retagged c.args.members.now c.args.members.now = record { size = refl; links = λ _. refl; backs = λ _. refl; marks = λ _. refl; others = λ _ _. refl } in
-    (same, λ _. begins _ c.requires.holds _ _ _ _ c.requires.ready 0 refl, λ k _. starts _ c.requires.holds _ _ _ _ c.requires.ready k)
-
-pub overflow_cast-members : goal.overflow_cast-members
-overflow_cast-members c = omega (arith, small _ c.requires.holds _ _ _ _ c.requires.ready c.loop-j.j c.loop-j-test.true)
 
 pub offset_bounds-members-at : goal.offset_bounds-members-at
 offset_bounds-members-at c =
