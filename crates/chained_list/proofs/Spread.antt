@@ -7,15 +7,12 @@ use Rattle.std.proofs.lemmas.Nat.{pow_pos, pow-add, le-div, div_below}
 use Rattle.order_list.specs.Order.{has}
 use Rattle.chained_list.specs.Chain.{Over, Rising}
 use Rattle.chained_list.specs.Tags.{among, start, loose, loose_from, loose_level, spread_tag, Smallest}
-use Rattle.order_list.proofs.Lists.{has_here, has_there}
-
-tail_has : (x k : ℕ) (xs : List ℕ) → (x ≡ k → ⊥) → has (x ∷ xs) k ≡ true → has xs k ≡ true
-tail_has x k xs ne h = grind (arith, nat_tests)
+use Rattle.order_list.proofs.Lists.{has_here, has_there, has_tail}
 
 above : (b : ℕ) (xs : List ℕ) (k : ℕ) → Over (λ a. a) b xs → has xs k ≡ true → b < k
 above b [] k o h = let z : false ≡ true = h in grind arith
 above b (x ∷ xs) k o h =
-    elim (eqb_tells x k) [ inl p ↦ omega (arith, o.0, p.1) | inr p ↦ above b xs k o.1 (tail_has x k xs p.1 h) ]
+    elim (eqb_tells x k) [ inl p ↦ omega (arith, o.0, p.1) | inr p ↦ above b xs k o.1 (has_tail x k xs p.1 h) ]
 
 -- counting
 pub among_le : (lo h : ℕ) (ts : List ℕ) → among lo h ts ≤ length ts
@@ -31,7 +28,7 @@ among_step lo a h [] p la ah = let z : false ≡ true = p in grind arith
 among_step lo a h (t ∷ ts) p la ah =
     elim (eqb_tells t a) [
       | inl e ↦ let r = among_mono lo a h ts (omega arith) in let q = e.1 in grind (arith, nat_tests)
-      | inr ne ↦ let r = among_step lo a h ts (tail_has t a ts ne.1 p) la ah in grind (arith, nat_tests)
+      | inr ne ↦ let r = among_step lo a h ts (has_tail t a ts ne.1 p) la ah in grind (arith, nat_tests)
     ]
 
 pub among_none : (lo h : ℕ) (ts : List ℕ) → ((b : ℕ) → has ts b ≡ true → (b < lo) ⊎ (h ≤ b)) → among lo h ts ≡ 0
@@ -56,7 +53,7 @@ among_next lo a h (t ∷ ts) r p la ah f =
           let q = e.1 in
           grind (arith, nat_tests)
       | inr ne ↦
-          let n = among_next lo a h ts r.1 (tail_has t a ts ne.1 p) la ah (λ b q. f b (has_there t b ts q)) in
+          let n = among_next lo a h ts r.1 (has_tail t a ts ne.1 p) la ah (λ b q. f b (has_there t b ts q)) in
           elim (f t (has_here t t ts refl)) [ inl le ↦ let lt : t < a = omega (arith, ne.1) in grind (arith, nat_tests) | inr le ↦ grind (arith, nat_tests) ]
     ]
 

@@ -1,6 +1,7 @@
 use mathlib.Core.Path.{◌≡◌, refl, sym, ◌∙◌, ap, subst}
+use Rattle.trace.proofs.Plain.{some_same}
 use mathlib.Core.List.{List}
-use mathlib.Core.Option.{Option, some, some-injective, none-ne-some}
+use mathlib.Core.Option.{none-ne-some}
 use Prim.Native.Nat.{ℕ}
 use Rattle.program.specs.View.{View}
 use Rattle.trace.specs.Trace.{Trace, places, Store}
@@ -23,14 +24,11 @@ same_first (past_new a b q r) = refl
 same_first (kept p a) = refl
 same_first (re_executed h p run fresh i j) = refl
 
-some_is : {t u : Trace} → ◌≡◌ {A = Option Trace} (some t) (some u) → t ≡ u
-some_is {t} {u} e = some-injective t u e
-
 pub runs_anew : RunsAnew
 runs_anew b₀ b s₀ s a t u v e p g k w h =
     let y = h.with_trace e (λ n. none-ne-some v (sym n ∙ p)) in
-    let t' : y.old_trace ≡ t = some_is (sym y.stood ∙ g) in
-    let u' : y.new_trace ≡ u = some_is (sym y.stands ∙ k) in
+    let t' : y.old_trace ≡ t = some_same (sym y.stood ∙ g) in
+    let u' : y.new_trace ≡ u = some_same (sym y.stands ∙ k) in
     w (ap first_place (sym t') ∙ same_first y.turns ∙ ap first_place u')
 
 same_counts : {mark e m z mark' e' m' z' : ℕ} {q q' : Pass} → done mark e m z q ≡ done mark' e' m' z' q' → (e ≡ e') × (m ≡ m')
@@ -39,7 +37,7 @@ same_counts x = (cc, cc)
 pub invents_counts : InventsCounts
 invents_counts b₀ b s₀ s q mark e m z f n t u v k p g w d other h =
     let y = h.with_trace k (λ o. none-ne-some v (sym o ∙ p)) in
-    let t' : t ≡ y.old_trace = sym (some_is (sym y.stood ∙ g)) in
+    let t' : t ≡ y.old_trace = sym (some_same (sym y.stood ∙ g)) in
     let c = y.counts u f n (subst (λ (x : Trace). Turns b.made_of.program (places x) (initial b.inputs) x u f n) t' w) d in
     let a = same_counts y.answers in
     other (a.0 ∙ sym c.0, a.1 ∙ sym c.1)

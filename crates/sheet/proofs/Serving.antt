@@ -1,12 +1,11 @@
 -- From the model that a sheet shows to the book that it keeps.
 use Rattle.std.proofs.Common.{◌≡◌, ℕ, Bool, true, ◌&&◌, eqb, List, sym, refl, ap, ◌∙◌, subst, inl, inr}
-use mathlib.Core.Option.{Option, some, none}
+use mathlib.Core.Option.{Option, none}
 use Rattle.std.proofs.lemmas.Bool.Decides.{eqb_tells}
 use Rattle.trace.specs.Trace.{Trace}
-use Rattle.history.specs.Calls.{settled, unsettled, Sort, resting, opened, Call, Refusal, Answer, refused}
+use Rattle.history.specs.Calls.{settled, unsettled, Sort, resting, opened, Call, Refusal, Answer}
 use Rattle.program.specs.declared.value.InputContent.{InputContent}
-use Rattle.std.proofs.lemmas.Bool.{and_parts}
-use Rattle.table.proofs.Lists.{differ}
+use Rattle.std.proofs.lemmas.Bool.{and_parts, true≢false}
 use Rattle.history.specs.Book.{Book, bears, refusal, same_sort, sort_of}
 use Rattle.history.specs.Sheet.{Does, RefusedOr}
 use Rattle.history.specs.Sheet as history
@@ -59,15 +58,15 @@ bears_takes s n k = ap (λ (b : Bool). eqb n s.number && b) (same_sorts k s.stat
 
 state_is : (k j : State) → same_state k j ≡ true → j ≡ k
 state_is Unsettled Unsettled h = refl
-state_is Unsettled Settled h = absurd (differ (sym h))
-state_is Unsettled Open h = absurd (differ (sym h))
-state_is Settled Unsettled h = absurd (differ (sym h))
+state_is Unsettled Settled h = absurd (true≢false (sym h))
+state_is Unsettled Open h = absurd (true≢false (sym h))
+state_is Settled Unsettled h = absurd (true≢false (sym h))
 state_is Settled Settled h = refl
-state_is Settled Open h = absurd (differ (sym h))
-state_is Open Unsettled h = absurd (differ (sym h))
-state_is Open Settled h = absurd (differ (sym h))
+state_is Settled Open h = absurd (true≢false (sym h))
+state_is Open Unsettled h = absurd (true≢false (sym h))
+state_is Open Settled h = absurd (true≢false (sym h))
 state_is Open Open h = refl
 
 pub takes_both : {X : Type 0} {g : Ghosts X} (s : Sheet X g) (n : ℕ) (k : State) → takes_pass s n k ≡ true → (n ≡ s.number) × (s.state ≡ k)
 takes_both s n k h = let b = and_parts (eqb n s.number) (same_state k s.state) h in
-    (elim (eqb_tells n s.number) [ inl e ↦ e.1 | inr e ↦ absurd (differ (sym b.0 ∙ e.0)) ], state_is k s.state b.1)
+    (elim (eqb_tells n s.number) [ inl e ↦ e.1 | inr e ↦ absurd (true≢false (sym b.0 ∙ e.0)) ], state_is k s.state b.1)

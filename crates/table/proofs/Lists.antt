@@ -1,13 +1,10 @@
 -- Stamps put into a list behind a cursor: one, and one run of them after another.
 use Rattle.std.proofs.Common.{◌≡◌, ℕ, ◌+◌, ◌<◌, true, false, cond, eqb, List, [], ◌∷◌, ◌++◌, length, Some, None, sym, refl, ap, ◌∙◌, subst, inl, inr, append_assoc, arith, length-append}
 use Rattle.std.proofs.lemmas.Bool.Decides.{eqb_tells, nat_tests}
-use Rattle.std.proofs.lemmas.Bool.{cases_Bool, lt-ltb}
+use Rattle.std.proofs.lemmas.Bool.{cases_Bool, lt-ltb, true≢false}
 use Rattle.order_list.specs.Order.{has, Apart, insert_after, insert_refusal}
 use Rattle.order_list.specs.declared.refusal.ListRefusal.{ListRefusal}
 use Rattle.table.specs.Stamps.{Member, Moved}
-
-pub differ : true ≡ false → ⊥
-differ e = let z : ◌≡◌ {A = ℕ} 0 1 = cc in omega arith
 
 -- ── what is among the parts of a list ──
 
@@ -23,8 +20,8 @@ in_right xs ys k h = has_append xs ys k ∙ elim (cases_Bool (has xs k)) [ inl p
 
 pub not_append : (xs ys : List ℕ) (k : ℕ) → has (xs ++ ys) k ≡ false → (has xs k ≡ false) × (has ys k ≡ false)
 not_append xs ys k h = (
-  elim (cases_Bool (has xs k)) [ inl p ↦ absurd (differ (sym (in_left xs ys k p) ∙ h)) | inr p ↦ p ],
-  elim (cases_Bool (has ys k)) [ inl p ↦ absurd (differ (sym (in_right xs ys k p) ∙ h)) | inr p ↦ p ],
+  elim (cases_Bool (has xs k)) [ inl p ↦ absurd (true≢false (sym (in_left xs ys k p) ∙ h)) | inr p ↦ p ],
+  elim (cases_Bool (has ys k)) [ inl p ↦ absurd (true≢false (sym (in_right xs ys k p) ∙ h)) | inr p ↦ p ],
 )
 
 pub has_split : (pre post : List ℕ) (m : ℕ) → has (pre ++ (m ∷ post)) m ≡ true
@@ -39,7 +36,7 @@ apart_left [] ys a = tt
 apart_left (x ∷ xs) ys a = ((not_append xs ys x a.0).0, apart_left xs ys a.1)
 
 pub not_both : (xs ys : List ℕ) (k : ℕ) → Apart (xs ++ ys) → has xs k ≡ true → has ys k ≡ false
-not_both [] ys k a h = absurd (differ (sym h))
+not_both [] ys k a h = absurd (true≢false (sym h))
 not_both (x ∷ xs) ys k a h = elim (eqb_tells x k) [
   | inl p ↦ subst (λ (j : ℕ). has ys j ≡ false) p.1 (not_append xs ys x a.0).1
   | inr p ↦ let e = p.0 in let h' : has xs k ≡ true = rw e at h in not_both xs ys k a.1 h'
@@ -64,7 +61,7 @@ insert_split [] post m n a = elim (eqb_tells m m) [ inl p ↦ rw p.0 | inr p ↦
 insert_split (x ∷ pre) post m n a =
     elim (eqb_tells x m) [
       | inl p ↦ let h = has_split pre post m in let k : has (pre ++ (m ∷ post)) m ≡ false = rw p.1 at a.0 in
-          absurd (differ (sym h ∙ k))
+          absurd (true≢false (sym h ∙ k))
       | inr p ↦ rw p.0 (ap (λ (l : List ℕ). x ∷ l) (insert_split pre post m n a.1))
     ]
 

@@ -1,4 +1,5 @@
 -- A trace in a table: what depends on its own places only.
+use Rattle.std.proofs.lemmas.List.{map-append}
 use Rattle.std.proofs.Common.{◌≡◌, ℕ, ◌*◌, true, ◌≢◌, List, [], ◌∷◌, ◌++◌, map, length, sym, refl, ap, ◌∙◌, inl, inr, arith, length-append}
 use Rattle.program.specs.declared.value.Name.{Name}
 use Rattle.program.specs.declared.value.Content.{Content}
@@ -38,18 +39,14 @@ holds_same a b (read n s br x rest) same h = holds_same a b rest (λ q k. same q
 
 -- ── stamps ──
 
-map_append : {A B : Type 0} (g : A → B) (xs ys : List A) → map g (xs ++ ys) ≡ map g xs ++ map g ys
-map_append g [] ys = refl
-map_append {A} {B} g (x ∷ xs) ys = ap (λ (l : List B). g x ∷ l) (map_append g xs ys)
-
 -- those of a NEW and of a read
 pub numbers_new : (ρ : Places) (n f : ℕ) (vs : List Value) (inner rest : Trace) →
     numbers ρ (new n f vs inner rest) ≡ (ρ n).start ∷ (numbers ρ inner ++ ((ρ n).end ∷ numbers ρ rest))
-numbers_new ρ n f vs inner rest = ap (λ (l : List ℕ). (ρ n).start ∷ l) (map_append (stamp_in ρ) (stamps inner) (end n ∷ stamps rest))
+numbers_new ρ n f vs inner rest = ap (λ (l : List ℕ). (ρ n).start ∷ l) (map-append (stamp_in ρ) (stamps inner) (end n ∷ stamps rest))
 
 pub numbers_read : (ρ : Places) (n : ℕ) (s : Name) (b : Reader) (x : Content) (rest : Trace) →
     numbers ρ (read n s b x rest) ≡ (ρ n).start ∷ (numbers ρ rest ++ ((ρ n).end ∷ []))
-numbers_read ρ n s b x rest = ap (λ (l : List ℕ). (ρ n).start ∷ l) (map_append (stamp_in ρ) (stamps rest) (end n ∷ []))
+numbers_read ρ n s b x rest = ap (λ (l : List ℕ). (ρ n).start ∷ l) (map-append (stamp_in ρ) (stamps rest) (end n ∷ []))
 
 module _ (ρ ρ' : Places) where
   pub numbers_same : (t : Trace) → ((q : ℕ) → Among q (places t) → ρ' q ≡ ρ q) → numbers ρ' t ≡ numbers ρ t
