@@ -54,17 +54,15 @@ fn with_tag(sum: u64, tag: u32) -> u64 {
 }
 
 /// Writes the members' tags along the list.
+// It goes along the list anew for the count, the sum and the tags, so that nothing is allocated.
 fn tell(rt: &HostRuntime, places: &[Member], name: &str, calls: usize) -> io::Result<()> {
     let count = places.len();
-    let tags: Vec<u32> = successors(places.first(), |member| places.get(member.behind()?))
-        .take(count)
-        .map(|member| member.tag)
-        .collect(rt.alloc())?;
-    let members = tags.len();
-    let sum = tags.iter().fold(0, |sum, tag| with_tag(sum, *tag));
+    let along = || successors(places.first(), |member| places.get(member.behind()?)).take(count);
+    let members = along().count();
+    let sum = along().fold(0, |sum, member| with_tag(sum, member.tag));
     println!(rt; "{count} places, {calls} calls {name}: {members} members, sum {sum}")?;
-    for tag in tags.iter().take(SHOWN) {
-        println!(rt; "{tag}")?;
+    for member in along().take(SHOWN) {
+        println!(rt; "{}", member.tag)?;
     }
     Ok(())
 }
