@@ -1,6 +1,8 @@
 // Tables in which nothing stands.
-ghost use Rattle.std.specs.Prelude.{◌≡◌, ℕ, ◌+◌, ◌*◌, ◌<◌, ◌≤◌, slice_index};
+ghost use Rattle.std.specs.Prelude.{◌≡◌, ℕ, ◌+◌, ◌*◌, ◌<◌, ◌≤◌, slice_index, slice_index_or};
 ghost use Rattle.program.specs.View.{viewed};
+ghost use Rattle.table.specs.declared.record.Entry.TheVariants.{Blank};
+ghost use Rattle.table.specs.Records.{blank};
 ghost use Rattle.table.specs.Anew.{Vacant, Zeros, Cleared, HasRoom};
 
 use crate::limit::Limit;
@@ -18,6 +20,14 @@ fn places_for(limit: Limit) -> u16
     ensures { result ≡ 2 * limit.value }
 {
     2 * limit.value()
+}
+
+/// All places blank.
+// A function of its own: a function clears its locals when it is entered, and these records are most of a table.
+fn blanks() -> [Record; PLACES]
+    ensures { (q : ℕ) → (slice_index_or result q blank).entry ≡ Blank }
+{
+    [Record::default(); PLACES]
 }
 
 /// All places, 0, 1, 2 ..
@@ -48,7 +58,7 @@ impl Table {
     {
         let inputs = zeros(program);
         Table {
-            records: [Record::default(); PLACES],
+            records: blanks(),
             inputs,
             noted: inputs,
             owners: [0; STAMPS],
@@ -66,7 +76,7 @@ impl Table {
         ensures same { O.OrderList.size list.new ≡ O.OrderList.size list.old }
     {
         list.clear();
-        self.records = [Record::default(); PLACES];
+        self.records = blanks();
         self.spare = all_places();
         self.spares = places_for(limit);
         self.readers = Readers::new();

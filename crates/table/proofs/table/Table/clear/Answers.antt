@@ -1,5 +1,4 @@
 use Rattle.std.proofs.Common.{refl, arith}
-use Rattle.table.proofs.Zeroed.{all_blank}
 use Rattle.table.proofs.Vacancy.{vacant, standing_in}
 use Rattle.table.proofs.table.Table.clear.Goals as goal
 
@@ -12,7 +11,7 @@ returns g c =
       cleared = record {
         holding = record {
           standing = standing_in l.only (omega arith) (vacant c.args.limit.most (record {
-            blank = λ q. all_blank 1024 q _ c.default-self.ensures.0;
+            blank = c.blanks-self.ensures;
             spares = c.places_for-self.ensures;
             spare = c.all_places-self.ensures;
             rings = c.new-self.ensures;
