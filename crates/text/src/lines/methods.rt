@@ -19,7 +19,9 @@ impl<'a> Lines<'a> {
         }
     }
 
-    // The next line, or what it breaks of the rules of layer 1, if a line is left.
+    // The next line, or what it breaks of the rules of layer 1, if a line is left. Inlined, so that its callers move only the part
+    // of the answer that they want.
+    #[inline(always)]
     pub(crate) fn tell_next(&mut self) -> Option<Result<Line<'a>, LineFault>>
         ensures { TellsNext self.old result self.new }
     {
