@@ -1,5 +1,5 @@
 -- The order of bookings: by day, and then by input.
-use Rattle.std.specs.Prelude.{◌≡◌, ℕ, Bool, true, false, ◌&&◌, ◌||◌, ◌==◌, nat_le, nat_lt}
+use Rattle.std.specs.Prelude.{◌≡◌, ℕ, ◌<◌, ◌≤◌, Bool, true, false, ◌&&◌, ◌||◌, ◌==◌, nat_le, nat_lt}
 use Rattle.std.proofs.Common.{arith}
 use Rattle.std.proofs.lemmas.Bool.Decides.{nat_tests}
 use Rattle.queue.specs.declared.booking.Booking.{Booking}
@@ -20,6 +20,18 @@ is_same_place a b = a.day == b.day && a.input == b.input
 -- whether a booking is for a day up to d
 abbrev pub due : Booking → ℕ → Bool
 due b d = nat_le b.day d
+
+-- not sooner: of a later day, or of the same day and no lower input
+not_sooner : (d i e j : ℕ) → (d ≤ e → (d ≡ e) × (j ≤ i)) → first_by d i e j ≡ false
+not_sooner d i e j h = grind (arith, nat_tests, h)
+
+-- sooner, and not of an earlier day: of the same day and a lower input
+is_sooner : (d i e j : ℕ) → first_by d i e j ≡ true → e ≤ d → (d ≡ e) × (i < j)
+is_sooner d i e j h l = grind (arith, nat_tests)
+
+-- not sooner, and not of a later day: of the same day and no lower input
+isnt_sooner : (d i e j : ℕ) → first_by d i e j ≡ false → d ≤ e → (d ≡ e) × (j ≤ i)
+isnt_sooner d i e j h l = grind (arith, nat_tests)
 
 -- never both ways
 pub sooner_oneway : (a b : Booking) → sooner a b ≡ true → sooner b a ≡ false

@@ -1,5 +1,5 @@
 -- The order of stale reads: by their start stamps in an order list.
-use Rattle.std.specs.Prelude.{◌≡◌, ℕ, Bool, true, false, List, [], ◌∷◌, refl}
+use Rattle.std.specs.Prelude.{◌≡◌, ℕ, Bool, true, false, List, [], ◌∷◌, ◌==◌, refl}
 use Rattle.std.proofs.Common.{arith}
 use Rattle.std.proofs.lemmas.Bool.Decides.{nat_tests}
 use Rattle.order_list.specs.Order.{has, Apart, earlier, Lawful as InOrder}
@@ -18,6 +18,10 @@ stale_before xs a b = earlier xs a.start b.start
 -- never both ways
 pub stale_oneway : (n : ℕ) (xs : List ℕ) (a b : StaleRead) → InOrder n xs → stale_before xs a b ≡ true → stale_before xs b a ≡ false
 stale_oneway n xs a b l e = oneway_earlier xs a.start b.start l.apart e
+
+-- a member that is not the first is behind it
+behind_the_first : (x k : ℕ) (xs : List ℕ) → (x == k) ≡ false → has (x ∷ xs) k ≡ true → has xs k ≡ true
+behind_the_first x k xs e h = let g : has xs k ≡ true = rw e at h in g
 
 chain_earlier : (xs : List ℕ) (a b c : ℕ) → Apart xs → has xs a ≡ true → has xs b ≡ true → has xs c ≡ true → earlier xs b a ≡ false → earlier xs c b ≡ false → earlier xs c a ≡ false
 chain_earlier [] a b c ap ha hb hc p q = refl

@@ -209,6 +209,9 @@ off_rest o = record { off = λ a b h. let k = o.off a b h in (k.0.1, k.1.1) }
 pub off_left : {ps : Pairs} (ns qs ms rs : List ℕ) → Off ps (ns ++ qs) (ms ++ rs) → Off ps ns ms
 off_left ns qs ms rs o = record { off = λ a b h. let k = o.off a b h in (absent_left a ns qs k.0, absent_left b ms rs k.1) }
 
+pub off_right : {ps : Pairs} (ns qs ms rs : List ℕ) → Off ps (ns ++ qs) (ms ++ rs) → Off ps qs rs
+off_right ns qs ms rs o = record { off = λ a b h. let k = o.off a b h in (absent_right a ns qs k.0, absent_right b ms rs k.1) }
+
 among_absent : (n : ℕ) (ps qs : List ℕ) → Distinct (ps ++ qs) → Among n ps → Absent n qs
 among_absent n [] qs d h = absurd h
 among_absent n (p ∷ ps) qs d (inl e) = subst (λ (z : ℕ). Absent z qs) (sym e) (absent_right p ps qs d.0)
