@@ -13,7 +13,8 @@ pub fn line_end_of(text: &[u8]) -> Option<usize>
     text.iter().position(|b| *b == b'\n')
 }
 
-// The first line, which bears this number, and what stands behind it.
+// The first line, which bears this number, and what stands behind it. Inlined, as `Lines::tell_next` is.
+#[inline(always)]
 pub(crate) fn first_line<'a>(
     number: usize,
     text: &'a [u8],
