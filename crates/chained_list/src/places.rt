@@ -37,7 +37,10 @@ impl Places<'_> {
     pub(crate) fn standing(&self, m: usize) -> Option<Member>
         ensures { StandsAs self.now.members.now m result }
     {
-        self.members.get(m).copied().filter(|member| member.used)
+        match self.members.get(m) {
+            Some(member) if member.used => Some(*member),
+            _ => None,
+        }
     }
 
     /// The free place that an insertion behind m takes, or why it is refused.
