@@ -20,13 +20,9 @@ use Rattle.sheet.specs.Refusals.{made_with}
 use Rattle.sheet.specs.Answers.{Serves}
 use Rattle.sheet.proofs.Serving.{model, serves_from, served_call, bears_takes, takes_both}
 
--- whether the list of a sheet has room
-abbrev pub Room : {X : Type 0} {g : Ghosts X} → Sheet X g → Type 0
-Room {g = g} s = 4 * s.limit.value + 1 ≤ g.size s.list
-
 -- the sheet with another state and table
-abbrev pub with : {X : Type 0} {g : Ghosts X} (s : Sheet X g) → State → Table → Room s → Sheet X g
-with s k t r = record { program = s.program; number = s.number; limit = s.limit; state = k; table = t; list = s.list; room = r }
+abbrev pub with : {X : Type 0} → Sheet X → State → Table → Sheet X
+with s k t = record { program = s.program; number = s.number; limit = s.limit; state = k; table = t; list = s.list }
 
 -- ── what stays ──
 
@@ -40,25 +36,25 @@ rest_set : (n i : ℕ) (is : List InputContent) (x : InputContent) → i < n →
 rest_set n i is x below h k l = get_or-set_other is i k x Empty (λ z. absurd (omega arith)) ∙ h k l
 
 -- a sheet that is not settled has no trace
-pub no_trace : {X : Type 0} {g : Ghosts X} {s : Sheet X g} {o : Option Trace} → Shows g s (model s o) → (s.state ≡ Unsettled) ⊎ (s.state ≡ Open) → o ≡ none
+pub no_trace : {X : Type 0} {g : Ghosts X} {s : Sheet X} {o : Option Trace} → Shows g s (model s o) → (s.state ≡ Unsettled) ⊎ (s.state ≡ Open) → o ≡ none
 no_trace {s = s} {o} h (inl e) = subst (λ (k : State). Traced k (kept_book s) o) e h.traced
 no_trace {s = s} {o} h (inr e) = subst (λ (k : State). Traced k (kept_book s) o) e h.traced
 
 -- ── open ──
 
-module _ {X : Type 0} {g : Ghosts X} (s : Sheet X g) (t : Table) (room : Room s) (n q : ℕ) where
+module _ {X : Type 0} {g : Ghosts X} (s : Sheet X) (t : Table) (n q : ℕ) where
   pub opened_call : q ≡ n → takes_pass s n Unsettled ≡ true → t.noted ≡ s.table.inputs → t.inputs ≡ s.table.inputs → Stays s.table t →
-      Serves g s (OPEN (a_pass (resting unsettled) n)) (gives (a_pass opened q)) (with s Open t room)
+      Serves g s (OPEN (a_pass (resting unsettled) n)) (gives (a_pass opened q)) (with s Open t)
   opened_call eq tk en ei st = serves_from (λ o h.
       let b = takes_both s n Unsettled tk in
       let c = count_of_inputs s.program in
       let is = s.table.inputs in
       let after : Book = record { made_of = made_of s; state = open_since unsettled (take c is); inputs = take c is; bookings = [] } in
-      let e₁ : kept_book (with s Open t room) ≡ after =
+      let e₁ : kept_book (with s Open t) ≡ after =
       ap₂ (λ (js ks : List InputContent). record { made_of = made_of s; state = open_since unsettled (take c js); inputs = take c ks; bookings = [] }) en ei in
       let e₂ : opening (kept_book s) (kept_book s).state ≡ after = ap (λ (k : State). opening (kept_book s) (state_of k (take c s.table.noted))) b.1 in
       record {
-        after = model (with s Open t room) o;
+        after = model (with s Open t) o;
         shows = record {
           keeps = refl;
           holding = holding_stays st h.holding;
@@ -93,22 +89,22 @@ take_set (suc c) i [] x = refl
 take_set (suc c) zero (y ∷ xs) x = refl
 take_set (suc c) (suc i) (y ∷ xs) x = ap (λ (l : List InputContent). y ∷ l) (take_set c i xs x)
 
-module _ {X : Type 0} {g : Ghosts X} (s : Sheet X g) (t : Table) (room : Room s) (n q i : ℕ) (x : InputContent) where
+module _ {X : Type 0} {g : Ghosts X} (s : Sheet X) (t : Table) (n q i : ℕ) (x : InputContent) where
   pub posted_call : q ≡ n → takes_pass s n Open ≡ true → unfit (made_of s) i x ≡ none → t.inputs ≡ set s.table.inputs i x → t.noted ≡ s.table.noted → Stays s.table t →
-      Serves g s (POST (a_pass opened n) i x) (gives (a_pass opened q)) (with s s.state t room)
+      Serves g s (POST (a_pass opened n) i x) (gives (a_pass opened q)) (with s s.state t)
   posted_call eq tk fits ei en st = serves_from (λ o h.
       let b = takes_both s n Open tk in
       let c = count_of_inputs s.program in
       let is = s.table.inputs in
       let below = fit_below (made_of s) i x fits in
-      let e : kept_book (with s s.state t room) ≡ book.change (kept_book s) (POST (a_pass opened n) i x) =
+      let e : kept_book (with s s.state t) ≡ book.change (kept_book s) (POST (a_pass opened n) i x) =
       ap₂ (λ (js ks : List InputContent). record { made_of = made_of s; state = state_of s.state (take c js); inputs = ks; bookings = [] }) en (ap (take c) ei ∙ take_set c i is x) in
       record {
-        after = model (with s s.state t room) o;
+        after = model (with s s.state t) o;
         shows = record {
           keeps = refl;
           holding = holding_stays st h.holding;
-          traced = subst (λ (k : State). Traced k (kept_book (with s s.state t room)) o) (sym b.1) (no_trace h (inr b.1));
+          traced = subst (λ (k : State). Traced k (kept_book (with s s.state t)) o) (sym b.1) (no_trace h (inr b.1));
           rest = rest_same c ei (rest_set c i is x below h.rest);
           noted_rest = rest_same c en h.noted_rest;
         };
@@ -120,19 +116,19 @@ module _ {X : Type 0} {g : Ghosts X} (s : Sheet X g) (t : Table) (room : Room s)
 
 -- ── withdraw ──
 
-module _ {X : Type 0} {g : Ghosts X} (s : Sheet X g) (t : Table) (room : Room s) (n q : ℕ) where
+module _ {X : Type 0} {g : Ghosts X} (s : Sheet X) (t : Table) (n q : ℕ) where
   pub withdrawn_call : q ≡ n → takes_pass s n Open ≡ true → t.inputs ≡ s.table.noted → t.noted ≡ s.table.noted → Stays s.table t →
-      Serves g s (WITHDRAW (a_pass opened n)) (gives (a_pass (resting unsettled) q)) (with s Unsettled t room)
+      Serves g s (WITHDRAW (a_pass opened n)) (gives (a_pass (resting unsettled) q)) (with s Unsettled t)
   withdrawn_call eq tk ei en st = serves_from (λ o h.
       let b = takes_both s n Open tk in
       let c = count_of_inputs s.program in
       let js = s.table.noted in
       let after : Book = record { made_of = made_of s; state = rests unsettled; inputs = take c js; bookings = [] } in
-      let e₁ : kept_book (with s Unsettled t room) ≡ after =
+      let e₁ : kept_book (with s Unsettled t) ≡ after =
       ap (λ (ks : List InputContent). record { made_of = made_of s; state = rests unsettled; inputs = take c ks; bookings = [] }) ei in
       let e₂ : withdrawing (kept_book s) (kept_book s).state ≡ after = ap (λ (k : State). withdrawing (kept_book s) (state_of k (take c js))) b.1 in
       record {
-        after = model (with s Unsettled t room) o;
+        after = model (with s Unsettled t) o;
         shows = record {
           keeps = refl;
           holding = holding_stays st h.holding;

@@ -57,8 +57,8 @@ module _ (p : Program) (is : List InputContent) (long : length is ≡ 256) (zero
 -- ── the sheet ──
 
 pub just_made : {X : Type 0} {g : Ghosts X} {p : Program} {n L : ℕ} {l : Limit} {t : Table} {x : X} → l.value ≡ L → Vacant l.value t → Zeros (viewed p) t.inputs → t.noted ≡ t.inputs →
-    g.order x ≡ 0 ∷ [] → (room : 4 * l.value + 1 ≤ g.size x) →
-    Shows g (record { program = p; number = n; limit = l; state = Unsettled; table = t; list = x; room = room }) (fresh (record { program = viewed p; number = n; limit = L }))
+    g.order x ≡ 0 ∷ [] → 4 * l.value + 1 ≤ g.size x →
+    Shows g (record { program = p; number = n; limit = l; state = Unsettled; table = t; list = x }) (fresh (record { program = viewed p; number = n; limit = L }))
 just_made {g = g} {p} {n} {L} {l} {t} {x} el v z en ox w =
     let r = rest_zero p t.inputs t.wide z in
     record {

@@ -18,11 +18,11 @@ use Rattle.sheet.specs.Shows.{Model, state_of, kept_book, takes_pass, same_state
 use Rattle.sheet.specs.Answers.{Done, Serves}
 
 -- the model of a sheet with the trace o
-abbrev pub model : {X : Type 0} {g : Ghosts X} → Sheet X g → Option Trace → Model
+abbrev pub model : {X : Type 0} → Sheet X → Option Trace → Model
 model s o = record { keeps = kept_book s; trace = o }
 
 -- it is enough to look at models that keep the sheet's book
-pub serves_from : {X : Type 0} {g : Ghosts X} {s s' : Sheet X g} {c : Call} {a : Answer} →
+pub serves_from : {X : Type 0} {g : Ghosts X} {s s' : Sheet X} {c : Call} {a : Answer} →
     ((o : Option Trace) → Shows g s (model s o) → Done g (model s o) c a s') → Serves g s c a s'
 serves_from {g = g} {s} {s'} {c} {a} f = record {
   serves = λ m h.
@@ -53,7 +53,7 @@ same_sorts Open Unsettled js = refl
 same_sorts Open Settled js = refl
 same_sorts Open Open js = refl
 
-pub bears_takes : {X : Type 0} {g : Ghosts X} (s : Sheet X g) (n : ℕ) (k : State) → bears (kept_book s) (a_pass (sort_at k) n) ≡ takes_pass s n k
+pub bears_takes : {X : Type 0} (s : Sheet X) (n : ℕ) (k : State) → bears (kept_book s) (a_pass (sort_at k) n) ≡ takes_pass s n k
 bears_takes s n k = ap (λ (b : Bool). eqb n s.number && b) (same_sorts k s.state _)
 
 state_is : (k j : State) → same_state k j ≡ true → j ≡ k
@@ -67,6 +67,6 @@ state_is Open Unsettled h = absurd (true≢false (sym h))
 state_is Open Settled h = absurd (true≢false (sym h))
 state_is Open Open h = refl
 
-pub takes_both : {X : Type 0} {g : Ghosts X} (s : Sheet X g) (n : ℕ) (k : State) → takes_pass s n k ≡ true → (n ≡ s.number) × (s.state ≡ k)
+pub takes_both : {X : Type 0} (s : Sheet X) (n : ℕ) (k : State) → takes_pass s n k ≡ true → (n ≡ s.number) × (s.state ≡ k)
 takes_both s n k h = let b = and_parts (eqb n s.number) (same_state k s.state) h in
     (elim (eqb_tells n s.number) [ inl e ↦ e.1 | inr e ↦ absurd (true≢false (sym b.0 ∙ e.0)) ], state_is k s.state b.1)

@@ -50,29 +50,29 @@ begins_taken {L} {P} n is h b = record { begun_at = b.begun_at; apart = b.apart;
 -- ── a settle ──
 
 -- the sheet with another state, table and list
-abbrev pub settled_as : {X : Type 0} {g : Ghosts X} (s : Sheet X g) → State → Table → (x : X) → 4 * s.limit.value + 1 ≤ g.size x → Sheet X g
-settled_as s k t x r = record { program = s.program; number = s.number; limit = s.limit; state = k; table = t; list = x; room = r }
+abbrev pub settled_as : {X : Type 0} → Sheet X → State → Table → X → Sheet X
+settled_as s k t x = record { program = s.program; number = s.number; limit = s.limit; state = k; table = t; list = x }
 
-module _ {X : Type 0} {g : Ghosts X} (s : Sheet X g) (t : Table) (x : X) (room : 4 * s.limit.value + 1 ≤ g.size x) (n q : ℕ) (eq : q ≡ n) (tk : takes_pass s n Open ≡ true) where
-  not_refused : refusal (kept_book s) (SETTLE (a_pass opened n)) ≡ none
-  not_refused = ap (λ (k : Bool). unless (k && true) wrong_pass none) (bears_takes s n Open ∙ tk)
+not_refused : {X : Type 0} (s : Sheet X) (n : ℕ) → takes_pass s n Open ≡ true → refusal (kept_book s) (SETTLE (a_pass opened n)) ≡ none
+not_refused s n tk = ap (λ (k : Bool). unless (k && true) wrong_pass none) (bears_takes s n Open ∙ tk)
 
-  kept_inputs : (k : State) → SameInputs s.table t → kept_book (settled_as s k t x room) ≡
-      record { made_of = made_of s; state = state_of k (take (count_of_inputs s.program) s.table.noted); inputs = take (count_of_inputs s.program) s.table.inputs; bookings = [] }
-  kept_inputs k e = ap₂ (λ (js is : List InputContent). record { made_of = made_of s; state = state_of k (take (count_of_inputs s.program) js); inputs = take (count_of_inputs s.program) is; bookings = [] }) e.noted e.inputs
+kept_inputs : {X : Type 0} (s : Sheet X) (t : Table) (x : X) (k : State) → SameInputs s.table t → kept_book (settled_as s k t x) ≡
+    record { made_of = made_of s; state = state_of k (take (count_of_inputs s.program) s.table.noted); inputs = take (count_of_inputs s.program) s.table.inputs; bookings = [] }
+kept_inputs s t x k e = ap₂ (λ (js is : List InputContent). record { made_of = made_of s; state = state_of k (take (count_of_inputs s.program) js); inputs = take (count_of_inputs s.program) is; bookings = [] }) e.noted e.inputs
 
+module _ {X : Type 0} {g : Ghosts X} (s : Sheet X) (t : Table) (x : X) (n q : ℕ) (eq : q ≡ n) (tk : takes_pass s n Open ≡ true) where
   pub settled_call : {m : ℕ} → RanAnew g (viewed s.program) s.limit.value s.table t x m →
-      Serves g s (SETTLE (a_pass opened n)) (done 2 0 m m (a_pass (resting settled) q)) (settled_as s Settled t x room)
+      Serves g s (SETTLE (a_pass opened n)) (done 2 0 m m (a_pass (resting settled) q)) (settled_as s Settled t x)
   settled_call {m = m} r = serves_from (λ o h.
       let b = takes_both s n Open tk in
       let c = count_of_inputs s.program in
       let u = r.trace in
-      let e = kept_inputs Settled r.same in
+      let e = kept_inputs s t x Settled r.same in
       let counted = r.counted in
       let st = stands_taken c s.table.inputs h.rest r.stands in
       let fits : size u ≤ s.limit.value = (let f = r.fits in omega arith) in
       record {
-        after = model (settled_as s Settled t x room) (some u);
+        after = model (settled_as s Settled t x) (some u);
         shows = record {
           keeps = refl;
           holding = r.holding;
@@ -80,7 +80,7 @@ module _ {X : Type 0} {g : Ghosts X} (s : Sheet X g) (t : Table) (x : X) (room :
           rest = rest_same c r.same.inputs h.rest;
           noted_rest = rest_same c r.same.noted h.noted_rest;
         };
-        does = served_call not_refused (inr (record {
+        does = served_call (not_refused s n tk) (inr (record {
           new_trace = u;
           stands = st;
           fits = fits;
@@ -94,13 +94,13 @@ module _ {X : Type 0} {g : Ghosts X} (s : Sheet X g) (t : Table) (x : X) (room :
       })
 
   pub too_large_call : Exceeded g (viewed s.program) s.limit.value s.table t x →
-      Serves g s (SETTLE (a_pass opened n)) (too_large (a_pass (resting unsettled) q)) (settled_as s Unsettled t x room)
+      Serves g s (SETTLE (a_pass opened n)) (too_large (a_pass (resting unsettled) q)) (settled_as s Unsettled t x)
   too_large_call r = serves_from (λ o h.
       let b = takes_both s n Open tk in
       let c = count_of_inputs s.program in
-      let e = kept_inputs Unsettled r.same in
+      let e = kept_inputs s t x Unsettled r.same in
       record {
-        after = model (settled_as s Unsettled t x room) none;
+        after = model (settled_as s Unsettled t x) none;
         shows = record {
           keeps = refl;
           holding = r.holding;
@@ -108,7 +108,7 @@ module _ {X : Type 0} {g : Ghosts X} (s : Sheet X g) (t : Table) (x : X) (room :
           rest = rest_same c r.same.inputs h.rest;
           noted_rest = rest_same c r.same.noted h.noted_rest;
         };
-        does = served_call not_refused (inl (record {
+        does = served_call (not_refused s n tk) (inl (record {
           none_so_small = (too_large_means s.limit.value (viewed s.program) (take c s.table.inputs)).0.1 (begins_taken c s.table.inputs h.rest r.begins_more);
           leaves = ap (λ (k : Book). record { keeps = k; trace = none }) e;
           answers = ap (λ (k : ℕ). too_large (a_pass (resting unsettled) k)) (eq ∙ b.0);
@@ -126,5 +126,5 @@ plainly {m} {m'} {n} {a} d =
       holds = λ e t p. holds_plain m.keeps m.trace a m' (so e) t p;
     }
 
-pub settles_plainly : {X : Type 0} {g : Ghosts X} {s s' : Sheet X g} {n : ℕ} {a : Answer} → Serves g s (SETTLE (a_pass opened n)) a s' → Settles g s (SETTLE (a_pass opened n)) a s'
+pub settles_plainly : {X : Type 0} {g : Ghosts X} {s s' : Sheet X} {n : ℕ} {a : Answer} → Serves g s (SETTLE (a_pass opened n)) a s' → Settles g s (SETTLE (a_pass opened n)) a s'
 settles_plainly h = record { settles = λ m w. let d = h.serves m w in (d, plainly d.does) }

@@ -52,20 +52,20 @@ SettleHandsBack q (Err (instead.Refused e)) = e.pass ≡ q
 SettleHandsBack q (Err (instead.TooLarge p)) = Unit {0}
 
 -- a pass of the number n that goes with the state k is admitted where the sheet takes it; else it is handed back, and is the wrong pass
-abbrev pub Admits : {X P : Type 0} {g : Ghosts X} → Sheet X g → ℕ → State → P → Result P (Refused P) → Type 0
+abbrev pub Admits : {X P : Type 0} → Sheet X → ℕ → State → P → Result P (Refused P) → Type 0
 Admits s n k q (Ok p) = (takes_pass s n k ≡ true) × (p ≡ q)
 Admits s n k q (Err e) = (takes_pass s n k ≡ false) × (e.refusal ≡ WrongPass) × (e.pass ≡ q)
 
 -- ── what a call does ──
 
 -- from the model m the call c answered a, and the sheet s shows what it left
-pub record Done {X : Type 0} (g : Ghosts X) (m : Model) (c : Call) (a : Answer) (s : Sheet X g) : Type 0 where
+pub record Done {X : Type 0} (g : Ghosts X) (m : Model) (c : Call) (a : Answer) (s : Sheet X) : Type 0 where
   pub after : Model
   pub shows : Shows g s after
   pub does : Does m c a after
 
 -- the call c on the sheet s answered a and left s': whatever model s showed, the call did to it what it is to do
-pub record Serves {X : Type 0} (g : Ghosts X) (s : Sheet X g) (c : Call) (a : Answer) (s' : Sheet X g) : Type 0 where
+pub record Serves {X : Type 0} (g : Ghosts X) (s : Sheet X) (c : Call) (a : Answer) (s' : Sheet X) : Type 0 where
   pub serves : (m : Model) → Shows g s m → Done g m c a s'
 
 -- ── settles ──
@@ -77,5 +77,5 @@ pub record Plainly (m : Model) (c : Call) (a : Answer) (after : Model) : Type 0 
   pub holds : refusal m.keeps c ≡ none → (t : Trace) → plain_run_of m.keeps ≡ some t → HoldsPlain t after
 
 -- whatever model s showed, the settle c did to it what it is to do, and left the plain run
-pub record Settles {X : Type 0} (g : Ghosts X) (s : Sheet X g) (c : Call) (a : Answer) (s' : Sheet X g) : Type 0 where
+pub record Settles {X : Type 0} (g : Ghosts X) (s : Sheet X) (c : Call) (a : Answer) (s' : Sheet X) : Type 0 where
   pub settles : (m : Model) → Shows g s m → (d : Done g m c a s') × Plainly m c a d.after

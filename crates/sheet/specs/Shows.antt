@@ -28,7 +28,7 @@ abbrev pub count_of_inputs : Program → ℕ
 count_of_inputs p = p.numbers + p.lists
 
 -- what make was given
-abbrev pub made_of : {X : Type 0} {g : Ghosts X} → Sheet X g → Make
+abbrev pub made_of : {X : Type 0} → Sheet X → Make
 made_of s = record { program = viewed s.program; number = s.number; limit = s.limit.value }
 
 -- the state; js are the inputs that open noted
@@ -50,11 +50,11 @@ same_state Open Settled = false
 same_state Open Open = true
 
 -- whether the sheet takes a pass of the number n that goes with the state k
-abbrev pub takes_pass : {X : Type 0} {g : Ghosts X} → Sheet X g → ℕ → State → Bool
+abbrev pub takes_pass : {X : Type 0} → Sheet X → ℕ → State → Bool
 takes_pass s n k = n == s.number && same_state k s.state
 
 -- the book that a sheet keeps
-abbrev pub kept_book : {X : Type 0} {g : Ghosts X} → Sheet X g → Book
+abbrev pub kept_book : {X : Type 0} → Sheet X → Book
 kept_book s = record {
   made_of = made_of s;
   state = state_of s.state (take (count_of_inputs s.program) s.table.noted);
@@ -82,7 +82,7 @@ RestEmpty n is = (k : ℕ) → n ≤ k → slice_index_or is k Empty ≡ Empty
 
 -- `Shows g s m`: the sheet s, over an order list whose meaning is g, shows the model m. The table and the list hold the model's trace: the list
 -- has the base and then the two stamps of each standing record in time order
-pub record Shows {X : Type 0} (g : Ghosts X) (s : Sheet X g) (m : Model) : Type 0 where
+pub record Shows {X : Type 0} (g : Ghosts X) (s : Sheet X) (m : Model) : Type 0 where
   pub keeps : m.keeps ≡ kept_book s
   pub holding : Holding g s.limit.value s.table s.list (held m.trace)
   pub traced : Traced s.state m.keeps m.trace

@@ -1,5 +1,3 @@
-ghost use Rattle.table.specs.Anew.{HasRoom};
-
 use order_list::list::OrderList;
 use program::program::Program;
 use table::limit::Limit;
@@ -26,5 +24,4 @@ pub struct Sheet<O: OrderList> {
     state: State,
     table: Table,
     list: O,
-    ghost room: { HasRoom O.OrderList limit.value list },
 }

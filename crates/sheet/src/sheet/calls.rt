@@ -8,6 +8,7 @@ use crate::fitting::fit;
 use crate::pass::{OpenPass, UnsettledPass};
 use crate::refusal::{Refusal, Refused};
 use crate::settled::{Mark, NotSettled, Settled};
+use crate::sheet::make::has_room;
 use crate::sheet::{Sheet, State};
 use order_list::list::OrderList;
 use program::value::InputContent;
@@ -74,6 +75,11 @@ impl<O: OrderList> Sheet<O> {
         ensures back { SettleHandsBack pass result }
     {
         let pass = self.admit(pass.0, State::Open, pass)?;
+        // A sheet that make made has room. It is tested again, since a type that says it could not be held in a struct that is
+        // generic over the labelling of its list.
+        if !has_room(self.list.capacity(), self.limit) {
+            return Err(NotSettled::TooLarge(pass.unsettled()));
+        }
         match self
             .table
             .run_anew(&mut self.list, &self.program, self.limit)

@@ -1,5 +1,5 @@
 // How a sheet is made.
-ghost use Rattle.std.specs.Prelude.{◌≡◌};
+ghost use Rattle.std.specs.Prelude.{◌≡◌, ◌+◌, ◌*◌, nat_le};
 ghost use Rattle.sheet.specs.Making.{Allowed, Makes};
 
 use crate::pass::UnsettledPass;
@@ -10,12 +10,19 @@ use program::program::Program;
 use table::limit::Limit;
 use table::table::Table;
 
-/// The limit, where it is one and a list of this capacity has room for the base and the stamps of 2L records.
+/// Whether a list of this capacity has room for the base and the stamps of 2L records.
+pub(crate) fn has_room(capacity: usize, limit: Limit) -> bool
+    ensures { result ≡ nat_le (4 * limit.value + 1) capacity }
+{
+    4 * limit.value() as usize + 1 <= capacity
+}
+
+/// The limit, where it is one and a list of this capacity has room.
 fn allowed(capacity: usize, limit: u16) -> Result<Limit, MakeRefusal>
     ensures { Allowed capacity limit result }
 {
     let limit = Limit::new(limit).ok_or(MakeRefusal::Limit)?;
-    if 4 * limit.value() as usize + 1 <= capacity {
+    if has_room(capacity, limit) {
         Ok(limit)
     } else {
         Err(MakeRefusal::Capacity)

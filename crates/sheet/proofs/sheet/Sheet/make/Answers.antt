@@ -1,4 +1,4 @@
-use Rattle.std.proofs.Common.{ℕ, sym, refl, ap, ◌∙◌}
+use Rattle.std.proofs.Common.{ℕ, sym, refl, ap, ◌∙◌, arith}
 use Rattle.sheet.specs.Making.{sheet_refusal}
 use Rattle.sheet.proofs.Making.{just_made}
 use Rattle.sheet.proofs.sheet.Sheet.make.Goals as goal
@@ -11,9 +11,9 @@ returns g c =
       ap (λ (n : ℕ). sheet_refusal n c.args.limit) (sym c.capacity.ensures) ∙ l.0,
       c.first.ensures,
       record {
-        sheet = record { program = c.args.program; number = c.args.number; limit = c.in-Ok.limit; state = _; table = c.new-table.result; list = c.clear.new.self; room = _ };
+        sheet = record { program = c.args.program; number = c.args.number; limit = c.in-Ok.limit; state = _; table = c.new-table.result; list = c.clear.new.self };
         placed = refl;
-        shows = just_made l.1 t.vacant t.inputs t.noted k.only _;
+        shows = just_made l.1 t.vacant t.inputs t.noted k.only (let r = l.2 in let e = l.1 in let w = k.same in let q = c.capacity.ensures in omega arith);
         same = k.same;
       },
     )
