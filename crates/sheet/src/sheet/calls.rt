@@ -78,6 +78,7 @@ impl<O: OrderList> Sheet<O> {
         // A sheet that make made has room. It is tested again, since a type that says it could not be held in a struct that is
         // generic over the labelling of its list.
         if !has_room(self.list.capacity(), self.limit) {
+            self.state = State::Unsettled;
             return Err(NotSettled::TooLarge(pass.unsettled()));
         }
         match self
