@@ -4,22 +4,12 @@ use lib.ListN.{get_or-replicate, length-replicate}
 use Rattle.std.proofs.lemmas.List.{get_or_past}
 use Rattle.std.proofs.lemmas.Bool.{cases_eq, cases_lt, lt-ltb, le-ltb}
 use Rattle.program.specs.declared.program.Program.{Program}
-use Rattle.table.specs.declared.record.Record.{Record}
-use Rattle.table.specs.declared.record.Entry.TheVariants.{Blank}
-use Rattle.table.specs.Records.{blank}
 use Rattle.program.proofs.Sound.{sound}
 use Rattle.program.specs.declared.value.InputContent.{InputContent}
 use Rattle.program.specs.declared.value.InputContent.TheVariants.{Number, Empty}
 
 pub all_alike : {A : Type 0} (n j : ℕ) (x : A) → get_or (replicate n x) j x ≡ x
 all_alike n j x = elim (cases_lt j n) [ inl l ↦ get_or-replicate n j x x l | inr l ↦ get_or_past (replicate n x) j x (let e = length-replicate n x in omega arith) ]
-
--- as many places as there are hold a blank record, and so does what lies behind them
-pub all_blank : (n q : ℕ) (r : Record) → r.entry ≡ Blank → (get_or (replicate n r) q blank).entry ≡ Blank
-all_blank n q r e = elim (cases_lt q n) [
-  | inl l ↦ ap (λ (x : Record). x.entry) (get_or-replicate n q r blank l) ∙ e
-  | inr l ↦ ap (λ (x : Record). x.entry) (get_or_past (replicate n r) q blank (let e = length-replicate n r in omega arith))
-]
 
 -- the first k are zero
 abbrev pub first_zero : ℕ → ℕ → InputContent

@@ -1,7 +1,6 @@
 // Tables in which nothing stands.
 ghost use Rattle.std.specs.Prelude.{◌≡◌, ℕ, ◌+◌, ◌*◌, ◌<◌, ◌≤◌, slice_index, slice_index_or};
 ghost use Rattle.program.specs.View.{viewed};
-ghost use Rattle.table.specs.declared.record.Entry.TheVariants.{Blank};
 ghost use Rattle.table.specs.Records.{blank};
 ghost use Rattle.table.specs.Anew.{Vacant, Zeros, Cleared, HasRoom};
 
@@ -25,7 +24,7 @@ fn places_for(limit: Limit) -> u16
 /// All places blank.
 // A function of its own: a function clears its locals when it is entered, and these records are most of a table.
 fn blanks() -> [Record; PLACES]
-    ensures { (q : ℕ) → (slice_index_or result q blank).entry ≡ Blank }
+    ensures { (q : ℕ) → slice_index_or result q blank ≡ blank }
 {
     [Record::default(); PLACES]
 }

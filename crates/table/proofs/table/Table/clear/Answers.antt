@@ -1,4 +1,5 @@
-use Rattle.std.proofs.Common.{refl, arith}
+use Rattle.std.proofs.Common.{refl, ap, arith}
+use Rattle.table.specs.declared.record.Record.{Record}
 use Rattle.table.proofs.Vacancy.{vacant, standing_in}
 use Rattle.table.proofs.table.Table.clear.Goals as goal
 
@@ -11,7 +12,7 @@ returns g c =
       cleared = record {
         holding = record {
           standing = standing_in l.only (omega arith) (vacant c.args.limit.most (record {
-            blank = c.blanks-self.ensures;
+            blank = λ q. ap (λ (r : Record). r.entry) (c.blanks-self.ensures q);
             spares = c.places_for-self.ensures;
             spare = c.all_places-self.ensures;
             rings = c.new-self.ensures;
